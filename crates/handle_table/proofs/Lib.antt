@@ -1,0 +1,4 @@
+pub mod Bound
+pub mod Held
+pub mod Slots
+pub mod SwapRemove

@@ -1,0 +1,28 @@
+use Rattle.std.specs.Prelude.{ℕ}
+use Rattle.object_header.specs.Field.{field_of}
+
+-- what a header word says, field by field; all but the two bits that are not used
+pub record Fields : Type 0 where
+  pub count : ℕ
+  pub marked : ℕ
+  pub hash : ℕ
+  pub grey : ℕ
+  pub pinned : ℕ
+  pub remembered : ℕ
+  pub format : ℕ
+  pub readonly : ℕ
+  pub class : ℕ
+
+-- the places of the fields in the header word: the lowest bit and the number of bits
+abbrev pub fields_of : ℕ → Fields
+fields_of word = record {
+  count = field_of 56 8 word;
+  marked = field_of 55 1 word;
+  hash = field_of 32 22 word;
+  grey = field_of 31 1 word;
+  pinned = field_of 30 1 word;
+  remembered = field_of 29 1 word;
+  format = field_of 24 5 word;
+  readonly = field_of 23 1 word;
+  class = field_of 0 22 word;
+}

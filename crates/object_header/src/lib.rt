@@ -1,0 +1,34 @@
+//! The header word of a chunk, and what the first words of a chunk say of the rest.
+//!
+//! The heap is words of 64 bits, cut without gaps into chunks: objects, forwarders and free chunks.
+//! A chunk is a header word and its slots, and where it has 255 slots or more an overflow word with
+//! their number stands before the header. The header has the class index in place of a reference to
+//! the class, so that one word holds it with the identity hash, the format and the flags of the
+//! collectors; three class indices stand for no class, and mark free chunks, the bridges between
+//! segments, and forwarders. The format says which slots are pointers and how the others are cut
+//! into units, and it counts the units that the last word has too many.
+//!
+//! The layers above rest on two things. A field that is set reads as the value, and each field
+//! apart from it reads as before ([`Field`], [`Header`]). And [`read_head`] gives the sizes of the
+//! chunk at the front of some words, or its first fault, so that a chunk it accepts lies whole
+//! within them.
+//!
+//! The layout is that of Spur's 64-bit memory, as the class comment of its memory manager and the
+//! image format have it; forwarders are those of "A Partial Read Barrier for Efficient Support of
+//! Live Object-Oriented Programming" (ISMM 2015).
+#![tactic(auto)]
+
+mod field;
+mod format;
+mod head;
+mod header;
+#[cfg(test)]
+mod tests;
+
+pub use field::{
+    ClassField, CountField, Field, FormatField, GreyField, HashField, MarkedField, PinnedField,
+    ReadOnlyField, RememberedField,
+};
+pub use format::Format;
+pub use head::{Head, HeadError, read_head};
+pub use header::{BRIDGE_CLASS, FORWARDER_CLASS, FREE_CLASS, Header, OVERFLOW_COUNT};

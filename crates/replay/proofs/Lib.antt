@@ -1,0 +1,11 @@
+pub mod Held
+pub mod Nodes
+pub mod Graphs
+pub mod Commands
+pub mod Objects
+pub mod Steps
+pub mod ScriptLines
+pub mod Answering
+pub mod Scripts
+pub mod Outcomes
+pub mod Words

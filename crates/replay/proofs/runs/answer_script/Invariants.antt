@@ -1,0 +1,19 @@
+use Rattle.std.proofs.Common.{◌≡◌, ◌-◌, ◌≤◌}
+use Rattle.replay.specs.Sessions.{IsSession, state_of}
+use Rattle.replay.proofs.Scripts.{ReadTo}
+use Rattle.replay.proofs.runs.answer_script.Given as goal
+
+-- what is told and counted is as at entry, and the lines of the bytes that were read were answered
+abbrev pub invariant-pieces : goal.invariant-pieces
+invariant-pieces g l = record {
+  sound : IsSession l.session;
+  told : g.F.Files.told l.files ≡ g.F.Files.told l.fn.files;
+  reads : g.F.Files.read_count l.files ≡ g.F.Files.read_count l.fn.files;
+  writes : g.F.Files.write_count l.files ≡ g.F.Files.write_count l.fn.files;
+  faults : g.K.Sink.fault_count l.out ≡ g.K.Sink.fault_count l.fn.out;
+  low : l.at ≤ 65536;
+  read : ReadTo (g.F.Files.told l.fn.files) (g.K.Sink.so_far l.fn.out) (state_of l.fn.session) (state_of l.session) l.script l.at l.open_line (g.K.Sink.so_far l.out);
+}
+
+abbrev pub decreases-pieces : goal.decreases-pieces
+decreases-pieces g l = 65536 - l.at

@@ -1,0 +1,5 @@
+pub mod Sessions
+pub mod Commands
+pub mod Runs
+pub mod Answered
+pub mod Stops

@@ -1,0 +1,64 @@
+-- What stops a run, and what is put in place of answers.
+use Rattle.std.specs.Prelude.{◌≡◌, ℕ, List, [], ◌∷◌, ◌++◌, codes, Option, Result, Ok, Err}
+use Rattle.std.specs.Fmt.{decimal}
+use Rattle.spur_io.specs.declared.files.FileFault.{FileFault}
+use Rattle.spur_io.specs.declared.files.FileFault.TheVariants as file
+use Rattle.spur_io.specs.declared.sink.SinkFault.{SinkFault}
+use Rattle.spur_io.specs.declared.sink.SinkFault.TheVariants as sink
+use Rattle.spur_io.specs.Store.{Puts}
+use Rattle.spur_io.specs.Causes.{SinkCause}
+use Rattle.spur_graph.specs.Bytes.{Text}
+use Rattle.image_load.specs.declared.image.LoadError.{LoadError}
+use Rattle.image_load.specs.declared.image.LoadError.TheVariants as errors
+use Rattle.replay.specs.declared.runs.Stop.{Stop}
+use Rattle.replay.specs.declared.runs.Stop.TheVariants as stop
+use Rattle.replay.specs.declared.runs.Status.{Status}
+use Rattle.replay.specs.declared.runs.Status.TheVariants as status
+
+-- why a refused read stops a run
+abbrev pub read_stop : FileFault → Stop
+read_stop file.Failed = stop.ReadFault
+read_stop file.Memory = stop.Memory
+
+-- why a refused put stops a run
+abbrev pub put_stop : SinkFault → Stop
+put_stop sink.Failed = stop.WriteFault
+put_stop sink.Memory = stop.Memory
+
+-- the status of a run that was stopped
+abbrev pub stop_status : Stop → Status
+stop_status stop.ReadFault = status.ReadFault
+stop_status stop.WriteFault = status.WriteFault
+stop_status stop.Memory = status.Memory
+stop_status stop.TooLong = status.TooLong
+
+-- the status of a run
+abbrev pub status_of : Result (Unit {0}) Stop → Status
+status_of (Ok x) = status.Done
+status_of (Err s) = stop_status s
+
+-- the status after the put of a line: as given, or by the fault
+abbrev pub put_status : Status → Result (Unit {0}) SinkFault → Status
+put_status whole (Ok x) = whole
+put_status whole (Err sink.Failed) = status.WriteFault
+put_status whole (Err sink.Memory) = status.Memory
+
+-- a line was put, or a put of it was refused
+pub record IsPut (line : Text) (before after : Option (List ℕ)) (faults faults_now : ℕ) (whole now : Status) : Type 0 where
+  pub put : Result (Unit {0}) SinkFault
+  pub status : now ≡ put_status whole put
+  pub bytes : Puts line before after put
+  pub cause : SinkCause faults faults_now put
+
+-- nothing was put
+pub record IsSilent (before after : Option (List ℕ)) (faults faults_now : ℕ) : Type 0 where
+  pub bytes : after ≡ before
+  pub cause : faults_now ≡ faults
+
+-- what is put for an image that is not loaded, and the status then
+abbrev pub IsRefusing : LoadError → Option (List ℕ) → Option (List ℕ) → ℕ → ℕ → Status → Type 0
+IsRefusing (errors.Short n) before after faults faults_now now = IsPut (codes "image: short " ++ decimal n ++ 10 ∷ []) before after faults faults_now status.Refused now
+IsRefusing (errors.Format n) before after faults faults_now now = IsPut (codes "image: format " ++ decimal n ++ 10 ∷ []) before after faults faults_now status.Refused now
+IsRefusing errors.Unsupported before after faults faults_now now = IsPut (codes "image: unsupported\n") before after faults faults_now status.Refused now
+IsRefusing errors.ReadFault before after faults faults_now now = (now ≡ status.ReadFault) × IsSilent before after faults faults_now
+IsRefusing errors.Memory before after faults faults_now now = (now ≡ status.Memory) × IsSilent before after faults faults_now

@@ -1,0 +1,327 @@
+// The top call: an image is loaded, and the lines of a script are answered while it is read.
+ghost use Rattle.std.specs.Prelude.{◌≡◌, ◌≤◌, ◌∷◌, ◌++◌, [], List, length, map, true, false, OnOk, OnErr, IfSome, IfNone, None};
+ghost use Rattle.std.specs.Fmt.{decimal};
+ghost use Rattle.std.specs.String.{string_bytes};
+ghost use Rattle.spur_io.specs.Causes.{SinkCause};
+ghost use Rattle.spur_graph.specs.Bytes.{Text};
+ghost use Rattle.spur_graph.specs.State.{Files};
+ghost use Rattle.replay.specs.Sessions.{IsSession, StandsFor, state_of};
+ghost use Rattle.replay.specs.Runs.{IsPath, IsReplay, IsMisused, Outcome, Judges, Counts};
+ghost use Rattle.replay.specs.Answered.{AnswersLine, AnswersBehind, AnswersPiece, CutsPiece, AnswersEnd, CutsEnd, ScriptRun};
+ghost use Rattle.replay.specs.Stops.{IsPut, IsRefusing, status_of};
+
+use crate::lines::{OpenLine, cut_line};
+use crate::session::Session;
+use arrayvec::ArrayVec;
+use image_load::{LoadError, load};
+use script_text::write_answer;
+use spur_io::{FileFault, Files, Sink, SinkFault};
+use std::alloc::Global;
+
+/// The most bytes that a script may have.
+const MOST_SCRIPT_BYTES: usize = 65_536;
+
+/// Bytes of the script that are read at once.
+const PIECE_BYTES: usize = 4_096;
+
+const USAGE: &str =
+    "usage: spur replay IMAGE SCRIPT [--eden W] [--survivor W] [--room W] [--saved W] | spur drill START LINES\n";
+
+/// How a run of the program ended.
+#[derive(Clone, Copy, Debug, PartialEq, Eq)]
+pub enum Status {
+    /// Every line was answered.
+    Done,
+    /// The words are in no known form.
+    Usage,
+    /// The image is not one that is loaded.
+    Refused,
+    /// A read failed.
+    ReadFault,
+    /// A put failed.
+    WriteFault,
+    /// There was no memory.
+    Memory,
+    /// The script has more than 65,536 bytes.
+    TooLong,
+}
+
+/// Why the lines of a script are not all answered.
+#[derive(Clone, Copy, Debug, PartialEq, Eq)]
+pub(crate) enum Stop {
+    ReadFault,
+    WriteFault,
+    Memory,
+    TooLong,
+}
+
+impl From<FileFault> for Stop {
+    ghost use Rattle.spur_io.specs.declared.files.FileFault.{FileFault};
+    ghost use Rattle.replay.specs.Stops.{read_stop};
+
+    ghost from_gives = { λ f s. s ≡ read_stop f };
+
+    fn from(fault: FileFault) -> Self {
+        match fault {
+            FileFault::Failed => Stop::ReadFault,
+            FileFault::Memory => Stop::Memory,
+        }
+    }
+}
+
+impl From<SinkFault> for Stop {
+    ghost use Rattle.spur_io.specs.declared.sink.SinkFault.{SinkFault};
+    ghost use Rattle.replay.specs.Stops.{put_stop};
+
+    ghost from_gives = { λ f s. s ≡ put_stop f };
+
+    fn from(fault: SinkFault) -> Self {
+        match fault {
+            SinkFault::Failed => Stop::WriteFault,
+            SinkFault::Memory => Stop::Memory,
+        }
+    }
+}
+
+impl From<Stop> for Status {
+    ghost use Rattle.replay.specs.declared.runs.Stop.{Stop};
+    ghost use Rattle.replay.specs.Stops.{stop_status};
+
+    ghost from_gives = { λ s t. t ≡ stop_status s };
+
+    fn from(stop: Stop) -> Self {
+        match stop {
+            Stop::ReadFault => Status::ReadFault,
+            Stop::WriteFault => Status::WriteFault,
+            Stop::Memory => Status::Memory,
+            Stop::TooLong => Status::TooLong,
+        }
+    }
+}
+
+/// Answers a line, and puts the answer.
+fn answer_line<K: Sink>(session: &mut Session, line: &[u8], out: &mut K) -> Result<(), SinkFault>
+    requires { IsSession session.old }
+    ensures answer { (files : Files) (script text : Text) → StandsFor line.now text → AnswersLine (state_of session.old files script) (state_of session.new files script) text (K.so_far out.old) (K.so_far out.new) result }
+    ensures cause { SinkCause (K.fault_count out.old) (K.fault_count out.new) result }
+    ensures sound { IsSession session.new }
+{
+    let answer = session.line(line);
+    let mut text = ArrayVec::new();
+    write_answer(&answer, &mut text);
+    out.put(text.as_slice())
+}
+
+/// Answers the open line, whose last bytes these are.
+fn answer_ended<K: Sink>(
+    session: &mut Session,
+    open_line: &mut OpenLine,
+    line: &[u8],
+    out: &mut K,
+) -> Result<(), SinkFault>
+    requires { IsSession session.old }
+    ensures answer { AnswersBehind (state_of session.old) (state_of session.new) open_line.old line.now (K.so_far out.old) (K.so_far out.new) result }
+    ensures none { open_line.new ≡ [] }
+    ensures cause { SinkCause (K.fault_count out.old) (K.fault_count out.new) result }
+    ensures sound { IsSession session.new }
+{
+    if open_line.is_empty() {
+        return answer_line(session, line, out);
+    }
+    open_line.extend(line);
+    let answered = answer_line(session, open_line.bytes(), out);
+    open_line.clear();
+    answered
+}
+
+/// Answers each line that is ended in a piece of the script, and keeps the line behind them.
+fn answer_piece<K: Sink>(
+    session: &mut Session,
+    open_line: &mut OpenLine,
+    piece: &[u8],
+    out: &mut K,
+) -> Result<(), SinkFault>
+    requires { IsSession session.old }
+    ensures answered { OnOk result (AnswersPiece (state_of session.old) (state_of session.new) open_line.old open_line.new piece.now (K.so_far out.old) (K.so_far out.new)) }
+    ensures part { OnErr result (CutsPiece (state_of session.old) open_line.old piece.now (K.so_far out.old) (K.so_far out.new)) }
+    ensures cause { SinkCause (K.fault_count out.old) (K.fault_count out.new) result }
+    ensures sound { IsSession session.new }
+{
+    let mut rest = piece;
+    'lines: while let Some((line, behind)) = cut_line(rest) {
+        answer_ended(session, open_line, line, out)?;
+        rest = behind;
+    }
+    open_line.extend(rest);
+    Ok(())
+}
+
+/// Answers the line at the script's end, if there are bytes behind the last line feed.
+fn answer_last<K: Sink>(
+    session: &mut Session,
+    open_line: &OpenLine,
+    out: &mut K,
+) -> Result<(), SinkFault>
+    requires { IsSession session.old }
+    ensures answered { OnOk result (AnswersEnd (state_of session.old) open_line.now (K.so_far out.old) (K.so_far out.new)) }
+    ensures part { OnErr result (CutsEnd (state_of session.old) open_line.now (K.so_far out.old) (K.so_far out.new)) }
+    ensures cause { SinkCause (K.fault_count out.old) (K.fault_count out.new) result }
+{
+    if open_line.is_empty() {
+        return Ok(());
+    }
+    answer_line(session, open_line.bytes(), out)
+}
+
+/// Answers the lines of a script while it is read. At most one byte past the limit is read.
+fn answer_script<F: Files, K: Sink>(
+    session: &mut Session,
+    files: &mut F,
+    script: &str,
+    out: &mut K,
+) -> Result<(), Stop>
+    requires { IsSession session.old }
+    ensures outcome { IfSome (F.told files.old) (λ store. IfSome (K.so_far out.old) (λ before. ScriptRun (state_of session.old store script.now) store (store script.now) before (K.so_far out.new) result)) }
+    ensures counts { Counts (F.read_count files.old) (F.read_count files.new) (K.fault_count out.old) (K.fault_count out.new) (status_of result) }
+    ensures writes { F.write_count files.new ≡ F.write_count files.old }
+    ensures same { F.told files.new ≡ F.told files.old }
+{
+    let mut open_line = OpenLine::new();
+    let mut piece = [0; PIECE_BYTES];
+    let mut at = 0;
+    'pieces: loop {
+        let most = PIECE_BYTES.min(MOST_SCRIPT_BYTES + 1 - at);
+        let count = files.read_at(script, at as u64, &mut piece[..most])?;
+        if count == 0 {
+            break 'pieces;
+        }
+        let taken = count.min(MOST_SCRIPT_BYTES - at);
+        answer_piece(session, &mut open_line, &piece[..taken], out)?;
+        if taken < count {
+            return Err(Stop::TooLong);
+        }
+        at += count;
+    }
+    answer_last(session, &open_line, out)?;
+    Ok(())
+}
+
+/// Puts a line, after which the run has this status.
+fn put_line<K: Sink>(out: &mut K, line: &[u8], status: Status) -> Status
+    ensures { IsPut line.now (K.so_far out.old) (K.so_far out.new) (K.fault_count out.old) (K.fault_count out.new) status result }
+{
+    match out.put(line) {
+        Ok(()) => status,
+        Err(SinkFault::Failed) => Status::WriteFault,
+        Err(SinkFault::Memory) => Status::Memory,
+    }
+}
+
+/// A line that ends in a number.
+fn numbered_line(label: &str, n: u64) -> ArrayVec<u8, 64>
+    requires { length label.now ≤ 20 }
+    ensures { result.items ≡ label.now ++ decimal n ++ 10 ∷ [] }
+{
+    let mut digits = itoa::Buffer::new();
+    let mut line = ArrayVec::new();
+    let _label_fits = line.try_extend_from_slice(label.as_bytes());
+    let _digits_fit = line.try_extend_from_slice(digits.format(n).as_bytes());
+    line.push(b'\n');
+    line
+}
+
+/// Puts the line of an image that is not loaded.
+fn refuse<K: Sink>(error: LoadError, out: &mut K) -> Status
+    ensures { IsRefusing error (K.so_far out.old) (K.so_far out.new) (K.fault_count out.old) (K.fault_count out.new) result }
+{
+    match error {
+        LoadError::Short(count) => {
+            let line = numbered_line("image: short ", count);
+            put_line(out, line.as_slice(), Status::Refused)
+        }
+        LoadError::Format(format) => {
+            let line = numbered_line("image: format ", format as u64);
+            put_line(out, line.as_slice(), Status::Refused)
+        }
+        LoadError::Unsupported => put_line(out, b"image: unsupported\n", Status::Refused),
+        LoadError::ReadFault => Status::ReadFault,
+        LoadError::Memory => Status::Memory,
+    }
+}
+
+/// Replays a script on an image.
+fn replay<F: Files, K: Sink>(
+    alloc: Global,
+    image: &str,
+    script: &str,
+    files: &mut F,
+    out: &mut K,
+) -> Status
+    ensures outcome { (words : List Text) → IsReplay words image.now script.now → IfSome (F.told files.old) (λ store. IfSome (K.so_far out.old) (λ before. Outcome words store before (K.so_far out.new) result)) }
+    ensures judges { (words : List Text) → IsReplay words image.now script.now → Judges words result }
+    ensures counts { Counts (F.read_count files.old) (F.read_count files.new) (K.fault_count out.old) (K.fault_count out.new) result }
+    ensures writes { F.write_count files.new ≡ F.write_count files.old }
+    ensures same { F.told files.new ≡ F.told files.old }
+{
+    let image = match load(alloc, files, image) {
+        Ok(image) => image,
+        Err(error) => return refuse(error, out),
+    };
+    let Ok(mut session) = Session::new(alloc, image) else {
+        return Status::Memory;
+    };
+    match answer_script(&mut session, files, script, out) {
+        Ok(()) => Status::Done,
+        Err(stop) => stop.into(),
+    }
+}
+
+/// Whether a word names a file: it is not empty, and does not begin with `-`.
+fn is_path(name: &str) -> bool
+    ensures yes { result ≡ true → IsPath name.now }
+    ensures no { result ≡ false → IsPath name.now → ⊥ }
+{
+    match name.as_bytes() {
+        [first, ..] => *first != b'-',
+        [] => false,
+    }
+}
+
+/// The image and the script of the words `replay IMAGE SCRIPT`; none where the words are others.
+fn paths_of(words: &[String]) -> Option<(&str, &str)>
+    ensures some { IfSome result (λ paths. IsReplay (map string_bytes words.now) paths.0.now paths.1.now) }
+    ensures none { IfNone result (IsMisused (map string_bytes words.now)) }
+{
+    match words {
+        [command, image, script]
+            if command.as_str() == "replay"
+                && is_path(image.as_str())
+                && is_path(script.as_str()) => { Some((image.as_str(), script.as_str())) }
+        _ => None,
+    }
+}
+
+/// Runs the program with these words, which are without its name: `replay IMAGE SCRIPT` loads the image and answers the script's
+/// lines, one by one, while it reads the script. Each answer is put before more of the script is read.
+///
+/// No session is kept.
+pub fn run<F: Files, K: Sink>(
+    alloc: Global,
+    words: &[String],
+    files: &mut F,
+    out: &mut K,
+    kept: &mut Option<Session>,
+) -> Status
+    requires { kept.old ≡ None }
+    ensures outcome { IfSome (F.told files.old) (λ store. IfSome (K.so_far out.old) (λ before. Outcome (map string_bytes words.now) store before (K.so_far out.new) result)) }
+    ensures judges { Judges (map string_bytes words.now) result }
+    ensures counts { Counts (F.read_count files.old) (F.read_count files.new) (K.fault_count out.old) (K.fault_count out.new) result }
+    ensures writes { F.write_count files.new ≡ F.write_count files.old }
+    ensures same { F.told files.new ≡ F.told files.old }
+    ensures kept { kept.new ≡ None }
+{
+    match paths_of(words) {
+        Some((image, script)) => replay(alloc, image, script, files, out),
+        None => put_line(out, USAGE.as_bytes(), Status::Usage),
+    }
+}

@@ -1,0 +1,266 @@
+use crate::{Session, Status, run};
+use drill_files::write_base_image;
+use spur_io::{CallKind, Files, MemoryFiles, MemorySink, read_full};
+use std::alloc::Global;
+use std::process::Abort;
+use std::test::Fail;
+
+const FIRST_SCRIPT: &str = "special s\nfetch c s 3\nkind c\n";
+
+const FIRST_ANSWERS: &str = "ok\nok\nobject 32 1\n";
+
+/// A store with the base image and this script.
+fn store(alloc: Global, script: &str) -> Result<MemoryFiles, Fail> {
+    let mut files = MemoryFiles::new(alloc)?;
+    write_base_image(&mut files, "base.image")?;
+    files.append("a.script", script.as_bytes())?;
+    Ok(files)
+}
+
+/// Puts some bytes of the base image in place of others.
+fn patch(alloc: Global, files: &mut MemoryFiles, at: usize, bytes: &[u8]) -> Result<(), Fail> {
+    let mut image = Vec::from_elem(alloc, 0, 50_416)?;
+    read_full(files, "base.image", 0, image.as_mut_slice())?;
+    'bytes: for (i, byte) in bytes.iter().enumerate() {
+        if let Some(old) = image.get_mut(at.saturating_add(i)) {
+            *old = *byte;
+        }
+    }
+    files.begin("base.image")?;
+    files.append("base.image", image.as_slice())?;
+    Ok(())
+}
+
+/// The status of a run with these words.
+fn status(
+    alloc: Global,
+    words: &[&str],
+    files: &mut MemoryFiles,
+    out: &mut MemorySink,
+) -> Result<Status, Fail> {
+    let mut texts = Vec::new(alloc);
+    'words: for word in words {
+        texts.push(String::from_str(alloc, word)?)?;
+    }
+    let mut kept: Option<Session> = None;
+    Ok(run(alloc, texts.as_slice(), files, out, &mut kept))
+}
+
+/// Asserts the status of a replay of these files, and what was put.
+fn check(
+    rt: &impl Abort,
+    alloc: Global,
+    files: &mut MemoryFiles,
+    want: Status,
+    answers: &str,
+) -> Result<(), Fail> {
+    let mut out = MemorySink::new(alloc)?;
+    let status = status(
+        alloc,
+        &["replay", "base.image", "a.script"],
+        files,
+        &mut out,
+    )?;
+    assert_eq!(rt; status, want);
+    assert_eq!(rt; out.bytes(), answers.as_bytes());
+    Ok(())
+}
+
+#[test]
+fn rows_are_answered(rt: HostRuntime) -> Result<(), Fail> {
+    check(
+        &rt,
+        rt.alloc(),
+        &mut store(rt.alloc(), FIRST_SCRIPT)?,
+        Status::Done,
+        FIRST_ANSWERS,
+    )?;
+    check(
+        &rt,
+        rt.alloc(),
+        &mut store(rt.alloc(), "special s\nfetch c s 3\nkind c")?,
+        Status::Done,
+        FIRST_ANSWERS,
+    )?;
+    check(
+        &rt,
+        rt.alloc(),
+        &mut store(
+            rt.alloc(),
+            "special s\nfetch c s 3\nfetch f c 2\nkind f\nkind q\n",
+        )?,
+        Status::Done,
+        "ok\nok\nok\nint 131072\n! unsupported\n",
+    )?;
+    check(
+        &rt,
+        rt.alloc(),
+        &mut store(
+            rt.alloc(),
+            "special s\nfetch n s 0\nkind n\nfetch f s 1\nkind f\nfetch t s 2\nkind t\nkind s\n",
+        )?,
+        Status::Done,
+        "ok\nok\nnil\nok\nfalse\nok\ntrue\nobject 51 2\n",
+    )?;
+    check(
+        &rt,
+        rt.alloc(),
+        &mut store(
+            rt.alloc(),
+            "\nspecial s \n@0 special s\nspecial S\nstat\nspecial s\nfetch x s 10\n",
+        )?,
+        Status::Done,
+        "! unsupported\n! unsupported\n! unsupported\n! unsupported\n! unsupported\nok\n! unsupported\n",
+    )?;
+    check(
+        &rt,
+        rt.alloc(),
+        &mut store(rt.alloc(), "")?,
+        Status::Done,
+        "",
+    )
+}
+
+#[test]
+fn images_are_refused(rt: HostRuntime) -> Result<(), Fail> {
+    let mut files = store(rt.alloc(), FIRST_SCRIPT)?;
+    patch(rt.alloc(), &mut files, 72, &[0; 8])?;
+    check(
+        &rt,
+        rt.alloc(),
+        &mut files,
+        Status::Refused,
+        "image: unsupported\n",
+    )?;
+    let mut files = store(rt.alloc(), FIRST_SCRIPT)?;
+    patch(rt.alloc(), &mut files, 0, &68533u32.to_le_bytes())?;
+    check(
+        &rt,
+        rt.alloc(),
+        &mut files,
+        Status::Refused,
+        "image: format 68533\n",
+    )?;
+    // slot 0 of the special objects array names its own word, then a page
+    let mut files = store(rt.alloc(), FIRST_SCRIPT)?;
+    patch(rt.alloc(), &mut files, 50320, &1_098_768u64.to_le_bytes())?;
+    check(
+        &rt,
+        rt.alloc(),
+        &mut files,
+        Status::Refused,
+        "image: unsupported\n",
+    )?;
+    let mut files = store(rt.alloc(), FIRST_SCRIPT)?;
+    patch(rt.alloc(), &mut files, 50320, &1_082_000u64.to_le_bytes())?;
+    check(
+        &rt,
+        rt.alloc(),
+        &mut files,
+        Status::Refused,
+        "image: unsupported\n",
+    )?;
+    // the second place of the hidden roots names the first page again
+    let mut files = store(rt.alloc(), FIRST_SCRIPT)?;
+    patch(
+        rt.alloc(),
+        &mut files,
+        128 + 8 * 74,
+        &1_082_000u64.to_le_bytes(),
+    )?;
+    check(
+        &rt,
+        rt.alloc(),
+        &mut files,
+        Status::Refused,
+        "image: unsupported\n",
+    )?;
+    let mut files = store(rt.alloc(), FIRST_SCRIPT)?;
+    files.begin("base.image")?;
+    files.append("base.image", &[0; 127])?;
+    check(
+        &rt,
+        rt.alloc(),
+        &mut files,
+        Status::Refused,
+        "image: short 127\n",
+    )
+}
+
+#[test]
+fn other_words_are_misused(rt: HostRuntime) -> Result<(), Fail> {
+    let mut files = store(rt.alloc(), FIRST_SCRIPT)?;
+    'words: for words in [
+        ["replay", "x"].as_slice(),
+        [].as_slice(),
+        ["replay", "base.image", "a.script", "--room"].as_slice(),
+        ["replay", "", "a.script"].as_slice(),
+        ["replay", "base.image", "-"].as_slice(),
+        ["play", "base.image", "a.script"].as_slice(),
+    ] {
+        let mut out = MemorySink::new(rt.alloc())?;
+        assert_eq!(rt;
+            status(rt.alloc(), words, &mut files, &mut out)?,
+            Status::Usage
+        );
+        assert_eq!(rt;
+            out.bytes(),
+            b"usage: spur replay IMAGE SCRIPT [--eden W] [--survivor W] [--room W] [--saved W] | spur drill START LINES\n".as_slice()
+        );
+    }
+    Ok(())
+}
+
+#[test]
+fn each_read_may_fail(rt: HostRuntime) -> Result<(), Fail> {
+    let put = ["", "", "", FIRST_ANSWERS];
+    'reads: for (k, put) in put.iter().enumerate() {
+        let mut files = store(rt.alloc(), FIRST_SCRIPT)?;
+        files.fail_calls(rt.alloc(), CallKind::Read, k as u64 + 1)?;
+        check(&rt, rt.alloc(), &mut files, Status::ReadFault, put)?;
+    }
+    let mut files = store(rt.alloc(), FIRST_SCRIPT)?;
+    files.fail_calls(rt.alloc(), CallKind::Read, 5)?;
+    check(&rt, rt.alloc(), &mut files, Status::Done, FIRST_ANSWERS)
+}
+
+#[test]
+fn each_put_may_fail(rt: HostRuntime) -> Result<(), Fail> {
+    'puts: for (k, put) in ["", "ok\n", "ok\nok\n"].iter().enumerate() {
+        let mut files = store(rt.alloc(), FIRST_SCRIPT)?;
+        let mut out = MemorySink::new(rt.alloc())?;
+        out.fail_put(rt.alloc(), k as u64 + 1)?;
+        let status = status(
+            rt.alloc(),
+            &["replay", "base.image", "a.script"],
+            &mut files,
+            &mut out,
+        )?;
+        assert_eq!(rt; status, Status::WriteFault);
+        assert_eq!(rt; out.bytes(), put.as_bytes());
+    }
+    Ok(())
+}
+
+#[test]
+fn reads_may_be_short(rt: HostRuntime) -> Result<(), Fail> {
+    let mut files = store(rt.alloc(), FIRST_SCRIPT)?;
+    files.limit_reads(1);
+    check(&rt, rt.alloc(), &mut files, Status::Done, FIRST_ANSWERS)
+}
+
+#[test]
+fn script_has_a_limit(rt: HostRuntime) -> Result<(), Fail> {
+    // 16 lines of 4,096 bytes with their line feeds
+    let mut files = store(rt.alloc(), "")?;
+    let line = [b'x'; 4_095];
+    'lines: for _ in 0..16 {
+        files.append("a.script", &line)?;
+        files.append("a.script", b"\n")?;
+    }
+    let long =
+        "! unsupported\n! unsupported\n! unsupported\n! unsupported\n! unsupported\n! unsupported\n! unsupported\n! unsupported\n! unsupported\n! unsupported\n! unsupported\n! unsupported\n! unsupported\n! unsupported\n! unsupported\n! unsupported\n";
+    check(&rt, rt.alloc(), &mut files, Status::Done, long)?;
+    files.append("a.script", b"x")?;
+    check(&rt, rt.alloc(), &mut files, Status::TooLong, long)
+}

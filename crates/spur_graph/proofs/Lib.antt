@@ -1,0 +1,4 @@
+pub mod Holding
+pub mod Renaming
+pub mod BaseImages
+pub mod Scripts

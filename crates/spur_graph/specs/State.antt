@@ -1,0 +1,41 @@
+-- The state of the machine, and how handles are read in it.
+use Rattle.std.specs.Prelude.{ℕ, List}
+use Rattle.std.specs.Option.{unwrap_or}
+use Rattle.spur_graph.specs.declared.answer.Value.{Value}
+use Rattle.spur_graph.specs.declared.answer.Value.TheVariants.{Ref}
+use Rattle.spur_graph.specs.Value.{named_by}
+use Rattle.spur_graph.specs.Node.{Node}
+use Rattle.spur_graph.specs.Graph.{Graph, node, held, bind}
+use Rattle.spur_graph.specs.Bytes.{Text}
+use Rattle.spur_graph.specs.Room.{Room}
+
+-- the bytes of each file, none where there is no such file
+abbrev pub Files : Type 0
+Files = Text → List ℕ
+
+-- a graph, its room, the files, and the name of the script that is run
+pub record State : Type 0 where
+  pub graph : Graph
+  pub room : Room
+  pub files : Files
+  pub script : Text
+
+-- the value of a handle; a command whose handle is not held is refused before it asks
+abbrev pub value_at : Graph → ℕ → Text → Value
+value_at g k h = unwrap_or (held g k h) (Ref g.nil)
+
+-- the name that a handle's value names; an immediate is refused before this is asked
+abbrev pub name_at : Graph → ℕ → Text → ℕ
+name_at g k h = unwrap_or (named_by (value_at g k h)) 0
+
+-- the node that a handle's value names
+abbrev pub node_of_handle : Graph → ℕ → Text → Node
+node_of_handle g k h = node g (name_at g k h)
+
+-- the state with another graph
+abbrev pub with_graph : State → Graph → State
+with_graph s g = record s { graph = g }
+
+-- the state with a handle bound
+abbrev pub bound : State → ℕ → Text → Value → State
+bound s k h v = with_graph s (bind s.graph k h v)

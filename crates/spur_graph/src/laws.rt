@@ -1,0 +1,15 @@
+// Laws of the definitions.
+ghost use Rattle.std.specs.Prelude.{◌≡◌, ℕ, List, Some};
+ghost use Rattle.spur_graph.specs.declared.answer.Value.{Value};
+ghost use Rattle.spur_graph.specs.Graph.{Graph, held, bind};
+ghost use Rattle.spur_graph.specs.Names.{Iso};
+
+/// What was bound last is held.
+pub fn handle_bound()
+    ensures { (g : Graph) (k : ℕ) (h : List ℕ) (v : Value) → held (bind g k h v) k h ≡ Some v }
+{}
+
+/// A graph differs from itself in no name.
+pub fn keeps_names()
+    ensures { (g : Graph) → Iso g g (λ a. a) (λ a. a) }
+{}

@@ -1,0 +1,15 @@
+//! The object graph machine: what an image and each line of a script mean, and the plain types of commands and answers.
+//!
+//! Everything above is proved against the definitions in `specs/`: values and nodes, the graph, the grammar of
+//! a script, the refusals of each command in their order, a step and a run, and the graph of an image. The machine
+//! knows no addresses, forwarders, generations or free lists; names stand for objects. The rules are those of Spur's object
+//! representation and class table, and of this project's script language (docs/SCRIPT.md, docs/DEFINITIONS.md).
+#![tactic(auto)]
+
+mod answer;
+mod command;
+mod laws;
+
+pub use answer::{Answer, Full, Refusal, SegmentCause, Shown, Stat, Value};
+pub use command::{Command, FileName, HandleName, Line};
+pub use laws::{handle_bound, keeps_names};
