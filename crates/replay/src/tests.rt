@@ -9,6 +9,9 @@ const FIRST_SCRIPT: &str = "special s\nfetch c s 3\nkind c\n";
 
 const FIRST_ANSWERS: &str = "ok\nok\nobject 32 1\n";
 
+const USAGE: &str =
+    "usage: spur replay IMAGE SCRIPT [--eden W] [--survivor W] [--room W] [--saved W] | spur drill START LINES\n";
+
 /// A store with the base image and this script.
 fn store(alloc: Global, script: &str) -> Result<MemoryFiles, Fail> {
     let mut files = MemoryFiles::new(alloc)?;
@@ -187,28 +190,39 @@ fn images_are_refused(rt: HostRuntime) -> Result<(), Fail> {
     )
 }
 
+/// Asserts that a run with these words is answered by the usage line.
+fn check_usage(
+    rt: &impl Abort,
+    alloc: Global,
+    files: &mut MemoryFiles,
+    words: &[&str],
+) -> Result<(), Fail> {
+    let mut out = MemorySink::new(alloc)?;
+    let status = status(alloc, words, files, &mut out)?;
+    assert_eq!(rt; status, Status::Usage);
+    assert_eq!(rt; out.bytes(), USAGE.as_bytes());
+    Ok(())
+}
+
 #[test]
 fn other_words_are_misused(rt: HostRuntime) -> Result<(), Fail> {
     let mut files = store(rt.alloc(), FIRST_SCRIPT)?;
-    'words: for words in [
-        ["replay", "x"].as_slice(),
-        [].as_slice(),
-        ["replay", "base.image", "a.script", "--room"].as_slice(),
-        ["replay", "", "a.script"].as_slice(),
-        ["replay", "base.image", "-"].as_slice(),
-        ["play", "base.image", "a.script"].as_slice(),
-    ] {
-        let mut out = MemorySink::new(rt.alloc())?;
-        assert_eq!(rt;
-            status(rt.alloc(), words, &mut files, &mut out)?,
-            Status::Usage
-        );
-        assert_eq!(rt;
-            out.bytes(),
-            b"usage: spur replay IMAGE SCRIPT [--eden W] [--survivor W] [--room W] [--saved W] | spur drill START LINES\n".as_slice()
-        );
-    }
-    Ok(())
+    check_usage(&rt, rt.alloc(), &mut files, &["replay", "x"])?;
+    check_usage(&rt, rt.alloc(), &mut files, &[])?;
+    check_usage(
+        &rt,
+        rt.alloc(),
+        &mut files,
+        &["replay", "base.image", "a.script", "--room"],
+    )?;
+    check_usage(&rt, rt.alloc(), &mut files, &["replay", "", "a.script"])?;
+    check_usage(&rt, rt.alloc(), &mut files, &["replay", "base.image", "-"])?;
+    check_usage(
+        &rt,
+        rt.alloc(),
+        &mut files,
+        &["play", "base.image", "a.script"],
+    )
 }
 
 #[test]
