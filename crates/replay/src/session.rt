@@ -7,7 +7,6 @@ ghost use Rattle.spur_graph.specs.declared.answer.Value.TheVariants.{Ref};
 ghost use Rattle.spur_graph.specs.declared.answer.Refusal.TheVariants as refusals;
 ghost use Rattle.spur_graph.specs.declared.answer.Answer.TheVariants.{Refused};
 ghost use Rattle.spur_graph.specs.Bytes.{Text};
-ghost use Rattle.spur_graph.specs.Value.{int_of};
 ghost use Rattle.spur_graph.specs.Node.{is_raw};
 ghost use Rattle.spur_graph.specs.Graph.{bind};
 ghost use Rattle.spur_graph.specs.Form.{Fetch, view};
@@ -22,6 +21,7 @@ ghost use Rattle.image_load.specs.Loaded.{IsImage, IsImageOf};
 
 use handle_table::{HandleTable, MOST_HANDLES, NoMemory, held_or_bound};
 use image_load::{Image, pointers_of};
+use immediates::int_of;
 use object_header::Header;
 use script_text::read_command;
 use spur_graph::{Answer, Command, HandleName, Refusal, Shown, keeps_names};
@@ -44,17 +44,6 @@ const FIRST_MUTATOR: u8 = 0;
 pub struct Session {
     image: Image,
     handles: HandleTable,
-}
-
-/// The number of a SmallInteger's word: its upper 61 bits, signed.
-fn integer_of(word: u64) -> i64
-    ensures { result ≡ int_of word }
-{
-    if word < 1 << 63 {
-        (word / 8) as i64
-    } else {
-        -1 - ((u64::MAX - word) / 8) as i64
-    }
 }
 
 /// Whether an object with this header has units and no pointer slots, by its format.
@@ -154,7 +143,7 @@ impl Session {
         ensures { result ≡ shown (graph_of self.now) (read self.now.image.nil word) }
     {
         let Ok(start) = self.object(word) else {
-            return Shown::Int(integer_of(word));
+            return Shown::Int(int_of(word));
         };
         if word == self.image.nil {
             Shown::Nil
