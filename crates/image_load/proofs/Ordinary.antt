@@ -1,13 +1,15 @@
 -- What a map of the ordinary objects says of words and of slots.
-use Rattle.std.proofs.Common.{◌≡◌, ◌≢◌, ◌⊎◌, inl, inr, ℕ, zero, suc, ◌<◌, List, [], ◌∷◌, length, get_or, arith, refl, sym, ap, ◌∙◌, subst, Option, Some, None, Bool, true, false, not, ◌&&◌, ◌||◌}
+use Rattle.std.proofs.Common.{◌≡◌, ◌≢◌, ◌⊎◌, inl, inr, ℕ, zero, suc, ◌+◌, ◌-◌, take, drop, slice_range, ◌<◌, List, [], ◌∷◌, length, get_or, arith, refl, sym, ap, ◌∙◌, subst, Option, Some, None, Bool, true, false, not, ◌&&◌, ◌||◌}
 use Rattle.std.specs.Prelude.{IfNone, ◌==◌}
-use Rattle.std.proofs.lemmas.Bool.{cases_eq, cases_Bool, eq-eqb, eqb-true}
+use Rattle.std.proofs.lemmas.Bool.{cases_eq, eq-eqb, ne_eqb}
 use Rattle.std.specs.Option.{is_some}
 use Rattle.std.specs.List.{All, Contains, filter}
 use Rattle.std.proofs.lemmas.List.Elements.{All-contains, All-contains_itself, All-filter, filter_passes}
-use Rattle.spur_graph.specs.Objects.{address, starts, ordinary_starts, is_internal, is_page, free_lists_start, roots_start}
+use Rattle.std.proofs.lemmas.List.{take-take}
+use Rattle.spur_graph.specs.Objects.{slots_at, pointer_count_at, pointer_words, address, starts, ordinary_starts, is_internal, is_page, free_lists_start, roots_start}
 use Rattle.spur_graph.specs.FirstForm.{IsReference}
-use Rattle.image_load.specs.Found.{IsWithin, IsWalked, IsOrdinaryMap}
+use Rattle.spur_heap.specs.Heaps.{IsWithin}
+use Rattle.image_load.specs.Found.{IsWalked, IsOrdinaryMap}
 
 -- an ordinary object starts within the words
 pub ordinary_below : (base s : ℕ) (words : List ℕ) (has : ℕ → Bool) → IsOrdinaryMap base words has → Contains (ordinary_starts base words) s → s < length words
@@ -27,6 +29,16 @@ all_ordinary base words has P map each k d below =
 pub one_ordinary : (base s : ℕ) (words : List ℕ) (has : ℕ → Bool) (P : ℕ → Type 0) → IsOrdinaryMap base words has → has s ≡ true → All P (ordinary_starts base words) → P s
 one_ordinary base s words has P map is all = All-contains P (ordinary_starts base words) s all (map.map.sound s is)
 
+pub within_ordinary : (base s : ℕ) (words : List ℕ) (has : ℕ → Bool) → IsOrdinaryMap base words has → has s ≡ true → IsWithin words s
+within_ordinary base s words has map is = one_ordinary base s words has (IsWithin words) map is map.within
+
+-- the words of the pointer slots, as the code cuts them out
+pub pointers_are : (words : List ℕ) (s count : ℕ) → IsWithin words s → count ≡ pointer_count_at words s → slice_range words (s + 1) (s + 1 + count) ≡ pointer_words words s
+unfolding pointer_words
+pointers_are words s count inside is =
+    let size : s + 1 + count - (s + 1) ≡ count = omega arith in
+    ap (λ n. take n (drop (s + 1) words)) (size ∙ is) ∙ sym (take-take (pointer_count_at words s) (slots_at words s) (drop (s + 1) words) inside.pointers)
+
 behind_first : (y x : ℕ) (ys : List ℕ) → Contains ys x → Contains (y ∷ ys) x
 behind_first y x ys (k, below, is) = (suc k, omega arith, is)
 
@@ -45,10 +57,6 @@ filter_keeps p (y ∷ ys) x (suc k, below, is) on =
       | true ↦ λ e. let Among : List ℕ → Type 0 = λ xs. Contains xs x in subst Among (sym (filter_first p y ys e)) (behind_first y x (filter p ys) rest)
       | false ↦ λ e. rw (e) rest
     ] refl
-
-outside : (b : Bool) → not b ≡ true → b ≡ false
-outside true on = cc
-outside false on = refl
 
 -- a start is that of an ordinary object just where it is one and is not internal
 pub ordinary_map : (base : ℕ) (words firsts : List ℕ) (before now : ℕ → Bool) → IsWalked words before firsts → ((s : ℕ) → now s ≡ before s && not (is_internal base words s)) → IsOrdinaryMap base words now
@@ -84,7 +92,7 @@ internal_taken base lists roots words before pages_gone lists_gone now lists_are
   | inl same ↦ ap now same ∙ (two ∙ sym (gone (before s) (s == free_lists_start words) (s == roots_start words) (is_page base words s) (inr (eq-eqb s (roots_start words) (same ∙ roots_are)))))
   | inr other ↦ others_two s other ∙ elim (cases_eq s lists) [
     | inl same ↦ ap lists_gone same ∙ (one ∙ sym (gone (before s) (s == free_lists_start words) (s == roots_start words) (is_page base words s) (inl (eq-eqb s (free_lists_start words) (same ∙ lists_are)))))
-    | inr another ↦ others_one s another ∙ (pages s ∙ sym (kept (before s) (s == free_lists_start words) (s == roots_start words) (is_page base words s) (none s (free_lists_start words) (λ e. another (e ∙ sym lists_are))) (none s (roots_start words) (λ e. other (e ∙ sym roots_are)))))
+    | inr another ↦ others_one s another ∙ (pages s ∙ sym (kept (before s) (s == free_lists_start words) (s == roots_start words) (is_page base words s) (ne_eqb s (free_lists_start words) (λ e. another (e ∙ sym lists_are))) (ne_eqb s (roots_start words) (λ e. other (e ∙ sym roots_are)))))
   ]
 ]
   where
@@ -99,6 +107,3 @@ internal_taken base lists roots words before pages_gone lists_gone now lists_are
     kept a true r p off off_too = cc
     kept a false true p off off_too = cc
     kept a false false p off off_too = refl
-
-    none : (s t : ℕ) → (s ≡ t → ⊥) → (s == t) ≡ false
-    none s t other = elim (cases_Bool (s == t)) [ inl on ↦ absurd (other (eqb-true s t on)) | inr off ↦ off ]

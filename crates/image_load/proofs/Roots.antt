@@ -1,14 +1,16 @@
 -- The hidden roots and the pages that their slots name, slot by slot.
-use Rattle.std.proofs.Common.{◌≡◌, ◌≢◌, inl, inr, ℕ, ◌+◌, ◌<◌, ◌≤◌, List, length, take, drop, get_or, arith, refl, subst, sym, ap, ◌∙◌, Bool, true, false, not, ◌&&◌, ◌||◌, length-take, length-drop, get_or-take}
+use Rattle.std.proofs.Common.{◌≡◌, ◌≢◌, inl, inr, ℕ, ◌+◌, ◌-◌, slice_range, ◌<◌, ◌≤◌, List, length, take, drop, get_or, arith, refl, subst, sym, ap, ◌∙◌, Bool, true, false, not, ◌&&◌, ◌||◌, length-take, get_or-take}
 use Rattle.std.specs.Prelude.{◌==◌}
 use Rattle.std.specs.List.{Contains, list_any}
-use Rattle.std.proofs.lemmas.Bool.{cases_eq, cases_Bool, eqb-true, eq-eqb}
-use Rattle.std.proofs.lemmas.List.{take-take, length-take-le, take_all, get_or_default}
+use Rattle.std.proofs.lemmas.Bool.{cases_eq, eqb-true, eq-eqb, ne_eqb, not-true}
+use Rattle.std.proofs.lemmas.List.Edits.{length-between}
+use Rattle.std.proofs.lemmas.List.{take-take, take_all, get_or_default}
 use Rattle.std.proofs.lemmas.List.Elements.{All-contains}
 use Rattle.std.proofs.lemmas.List.Folds.{list_any_more, Any-from_list_any, list_any-from_Any}
 use Rattle.spur_graph.specs.Objects.{starts, address, first_start, page_slots, slots_at, is_page}
 use Rattle.spur_graph.specs.FirstForm.{IsPageSlot}
-use Rattle.image_load.specs.Found.{IsWithin, IsWalked, IsPageStart, AreRoots, is_page_below}
+use Rattle.spur_heap.specs.Heaps.{IsWithin}
+use Rattle.image_load.specs.Found.{IsWalked, IsPageStart, AreRoots, is_page_below}
 
 five_starts : (words firsts : List ℕ) (has : ℕ → Bool) → IsWalked words has firsts → length firsts ≡ 5 → 5 ≤ length (starts words)
 five_starts words firsts has walked five = omega (arith, sym five ∙ (ap length walked.first ∙ length-take 5 (starts words)))
@@ -31,25 +33,21 @@ pub roots_end : (words firsts : List ℕ) (has : ℕ → Bool) → IsWalked word
 roots_end words firsts has walked roots = let w = first_within words firsts has 4 walked roots.five (omega arith) in omega (arith, w.end, roots.full)
 
 -- the places of pages, as the code cuts them out
-pub places_are : (words firsts places behind : List ℕ) (has : ℕ → Bool) → IsWalked words has firsts → AreRoots words firsts → behind ≡ drop (get_or firsts 4 0 + 1) words → places ≡ take 4096 behind → places ≡ page_slots words
+pub places_are : (words firsts : List ℕ) (has : ℕ → Bool) → IsWalked words has firsts → AreRoots words firsts → slice_range words (get_or firsts 4 0 + 1) (get_or firsts 4 0 + 1 + 4096) ≡ page_slots words
 unfolding page_slots
-places_are words firsts places behind has walked roots is cut =
+places_are words firsts has walked roots =
+    let at = get_or firsts 4 0 + 1 in
     let same_start = first_is words firsts has 4 walked (omega arith) in
+    let count : at + 4096 - at ≡ 4096 = omega arith in
     let Slots : ℕ → ℕ → List ℕ = λ s n. take 4096 (take n (drop (s + 1) words)) in
-    cut ∙ (ap (take 4096) is ∙ (sym (take-take 4096 4104 (drop (get_or firsts 4 0 + 1) words) (omega arith))
-    ∙ (ap (Slots (get_or firsts 4 0)) (sym roots.full) ∙ ap (λ s. Slots s (slots_at words s)) (sym same_start))))
+    ap (λ n. take n (drop at words)) count ∙ (sym (take-take 4096 4104 (drop at words) (omega arith))
+    ∙ (ap (Slots (get_or firsts 4 0)) (sym roots.full) ∙ ap (λ s. Slots s (slots_at words s)) (sym same_start)))
 
 pub places_count : (words firsts : List ℕ) (has : ℕ → Bool) → IsWalked words has firsts → AreRoots words firsts → length (page_slots words) ≡ 4096
 places_count words firsts has walked roots =
+    let at = get_or firsts 4 0 + 1 in
     let end = roots_end words firsts has walked roots in
-    let behind = drop (get_or firsts 4 0 + 1) words in
-    sym (ap length (places_are words firsts (take 4096 behind) behind has walked roots refl refl)) ∙ length-take-le 4096 behind (omega (arith, length-drop (get_or firsts 4 0 + 1) words, end))
-
-same_eqb : (a b : ℕ) → a ≡ b → (a == b) ≡ true
-same_eqb a b is = eq-eqb a b is
-
-other_eqb : (a b : ℕ) → (a ≡ b → ⊥) → (a == b) ≡ false
-other_eqb a b other = elim (cases_Bool (a == b)) [ inl on ↦ absurd (other (eqb-true a b on)) | inr off ↦ off ]
+    sym (ap length (places_are words firsts has walked roots)) ∙ length-between words at (at + 4096) (omega (arith, end)) ∙ (omega arith)
 
 address_once : (base s t : ℕ) → address base s ≡ address base t → s ≡ t
 address_once base s t is = omega (arith, is)
@@ -69,7 +67,7 @@ or_and false false n none = refl
 pub nil_more : (base i s : ℕ) (words : List ℕ) → i < length (page_slots words) → get_or (page_slots words) i 0 ≡ address base (first_start words 0) → is_page_below (i + 1) base words s ≡ is_page_below i base words s
 nil_more base i s words below is =
     below_more base i s words below ∙ or_and (list_any (λ w. w == address base s) (take i (page_slots words))) (get_or (page_slots words) i 0 == address base s) (not (s == first_start words 0))
-    (λ on. other_eqb _ _ (λ same. not_both (s == first_start words 0) on (same_eqb s (first_start words 0) (address_once base s (first_start words 0) (sym same ∙ is)))))
+    (λ on. ne_eqb _ _ (λ same. not_both (s == first_start words 0) on (eq-eqb s (first_start words 0) (address_once base s (first_start words 0) (sym same ∙ is)))))
   where
     not_both : (b : Bool) → not b ≡ true → b ≡ true → ⊥
     not_both true on yes_ = cc
@@ -79,7 +77,7 @@ nil_more base i s words below is =
 pub other_more : (base i s page : ℕ) (words : List ℕ) → i < length (page_slots words) → get_or (page_slots words) i 0 ≡ address base page → (s ≡ page → ⊥) → is_page_below (i + 1) base words s ≡ is_page_below i base words s
 other_more base i s page words below is other =
     below_more base i s words below ∙ or_and (list_any (λ w. w == address base s) (take i (page_slots words))) (get_or (page_slots words) i 0 == address base s) (not (s == first_start words 0))
-    (λ on. other_eqb _ _ (λ same. other (address_once base s page (sym same ∙ is))))
+    (λ on. ne_eqb _ _ (λ same. other (address_once base s page (sym same ∙ is))))
 
 or_true : (a p n : Bool) → p ≡ true → n ≡ true → (a || p) && n ≡ true
 or_true true p n yes_ on = on
@@ -88,7 +86,7 @@ or_true false p n yes_ on = rw (yes_, on) refl
 pub page_more : (base i page : ℕ) (words : List ℕ) → i < length (page_slots words) → get_or (page_slots words) i 0 ≡ address base page → (page ≡ first_start words 0 → ⊥) → is_page_below (i + 1) base words page ≡ true
 page_more base i page words below is apart =
     below_more base i page words below ∙ or_true (list_any (λ w. w == address base page) (take i (page_slots words))) (get_or (page_slots words) i 0 == address base page) (not (page == first_start words 0))
-    (same_eqb _ _ is) (ap not (other_eqb page (first_start words 0) apart))
+    (eq-eqb _ _ is) (ap not (ne_eqb page (first_start words 0) apart))
 
 -- a slot before names the page
 named_before : (base i s : ℕ) (words : List ℕ) → i ≤ length (page_slots words) → list_any (λ w. w == address base s) (take i (page_slots words)) ≡ true → (j : ℕ) × (j < i) × (get_or (page_slots words) j 0 ≡ address base s)
@@ -105,16 +103,12 @@ names_before base i j s words below low is =
     let ps = page_slots words in
     let there : j < length (take i ps) = omega (arith, length-take i ps) in
     list_any-from_Any (λ w. w == address base s) (take i ps)
-    (j, get_or ps j 0, there, get_or-take i ps j (get_or ps j 0) below ∙ get_or_default ps j (get_or ps j 0) 0 (omega arith), same_eqb (get_or ps j 0) (address base s) is)
+    (j, get_or ps j 0, there, get_or-take i ps j (get_or ps j 0) below ∙ get_or_default ps j (get_or ps j 0) 0 (omega arith), eq-eqb (get_or ps j 0) (address base s) is)
 
 and_parts : (a b : Bool) → a && b ≡ true → (a ≡ true) × (b ≡ true)
 and_parts true true is = (refl, refl)
 and_parts true false is = cc
 and_parts false b is = cc
-
-not_true : (b : Bool) → not b ≡ true → b ≡ false
-not_true true is = cc
-not_true false is = refl
 
 -- the starts that stand in the map after `i` slots: those that were there before any, but for the pages that these slots name
 abbrev pub Stands : ℕ → ℕ → List ℕ → (ℕ → Bool) → (ℕ → Bool) → Type 0
@@ -132,7 +126,7 @@ nil_taken base i words before now below is stands s = stands s ∙ ap (λ b. bef
 
 -- the page stood in the map, so no slot before names it
 pub was_free : (base i page : ℕ) (words : List ℕ) (before now : ℕ → Bool) → Stands i base words before now → now page ≡ true → (before page ≡ true) × (is_page_below i base words page ≡ false)
-was_free base i page words before now stands is = let both = and_parts (before page) (not (is_page_below i base words page)) (sym (stands page) ∙ is) in (both.0, not_true (is_page_below i base words page) both.1)
+was_free base i page words before now stands is = let both = and_parts (before page) (not (is_page_below i base words page)) (sym (stands page) ∙ is) in (both.0, not-true (is_page_below i base words page) both.1)
 
 pub page_taken : (base i page : ℕ) (words : List ℕ) (before now then_ : ℕ → Bool) → i < length (page_slots words) → get_or (page_slots words) i 0 ≡ address base page → (page ≡ first_start words 0 → ⊥)
     → Stands i base words before now → then_ page ≡ false → ((s : ℕ) → s ≢ page → then_ s ≡ now s) → Stands (i + 1) base words before then_
@@ -155,7 +149,7 @@ page_slot base i page words firsts before now below is walked five start stands 
     inr (
       record { start = page; object = walked.map.sound page free.0; names = is; apart = not_nil words firsts before page walked five start.apart; format = start.array; slots = start.full },
       λ j earlier same. named_twice (list_any (λ w. w == address base page) (take i (page_slots words))) (page == first_start words 0)
-          free.1 (names_before base i j page words earlier (omega arith) (same ∙ is)) (other_eqb page (first_start words 0) (not_nil words firsts before page walked five start.apart 0 (omega arith))),
+          free.1 (names_before base i j page words earlier (omega arith) (same ∙ is)) (ne_eqb page (first_start words 0) (not_nil words firsts before page walked five start.apart 0 (omega arith))),
     )
   where
     named_twice : (named nil : Bool) → named && not nil ≡ false → named ≡ true → nil ≡ false → ⊥

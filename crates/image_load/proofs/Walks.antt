@@ -10,9 +10,11 @@ use Rattle.object_header.specs.Field.{field_of}
 use Rattle.object_header.specs.Formats.{pointer_slots_of}
 use Rattle.object_header.specs.Head.{head_of, count_of, format_of, literals_of}
 use Rattle.object_header.specs.declared.head.Head.{Head}
+use Rattle.heap_walk.specs.declared.chunk.Chunk.{Chunk}
 use Rattle.spur_graph.specs.Objects.{object_head, start_before, starts_from, object_starts, starts, slots_at}
-use Rattle.image_load.proofs.Heads.{object_is, head_words}
-use Rattle.image_load.specs.Found.{IsFront, IsWithin, IsMapOf, IsWalked}
+use Rattle.image_load.proofs.Heads.{IsFront, object_is, head_words, front}
+use Rattle.spur_heap.specs.Heaps.{IsWithin}
+use Rattle.image_load.specs.Found.{IsMapOf, IsWalked, IsObjectChunk}
 
 -- the starts of the objects from word `at` on
 abbrev pub behind : List ℕ → ℕ → Option (List ℕ)
@@ -151,7 +153,7 @@ lead_seen true again at lead same is on = omega arith
 lead_seen false again at lead same is on = cc
 
 -- the object at `at` lies within the words
-pub object_within : (words : List ℕ) (at : ℕ) (h : Head) → at ≤ length words → IsFront (drop at words) h → IsWithin words (at + h.lead)
+object_within : (words : List ℕ) (at : ℕ) (h : Head) → at ≤ length words → IsFront (drop at words) h → IsWithin words (at + h.lead)
 unfolding slots_at
 object_within words at h low f =
     let ws = drop at words in
@@ -171,16 +173,22 @@ object_within words at h low f =
       pointers = subst S (sym next) (subst R (sym counted) (subst Q (sym header) f.pointed));
     }
 
-pub walk_goes_on : (words firsts firsts' : List ℕ) (at : ℕ) (h : Head) (has has' : ℕ → Bool) → IsSoFar words at has firsts → at < length words → object_head (head_of (drop at words)) ≡ Some h → IsFront (drop at words) h
-    → has' (at + h.lead) ≡ true → ((k : ℕ) → k ≢ at + h.lead → has' k ≡ has k)
-    → (length firsts < 5 → firsts' ≡ firsts ++ (at + h.lead) ∷ []) → (length firsts ≡ 5 → firsts' ≡ firsts) → IsSoFar words (at + h.words) has' firsts'
-walk_goes_on words firsts firsts' at h has has' s below is front added others more full = record {
-  seen = s.seen ++ (at + h.lead) ∷ [];
-  so_far = s.so_far ∙ (ap (before s.seen) (behind_object words at h below is) ∙ before_push s.seen (at + h.lead) (behind words (at + h.words)));
-  map = map_more has has' s.seen (at + h.lead) s.map added others;
-  within = All-push (IsWithin words) s.seen (at + h.lead) s.within (object_within words at h (omega arith) front);
-  first = first_more firsts firsts' s.seen (at + h.lead) s.first more full;
-}
+pub walk_goes_on : (words firsts firsts' : List ℕ) (at : ℕ) (c : Chunk) (has has' : ℕ → Bool) → IsSoFar words at has firsts → at < length words → IsObjectChunk words at c
+    → has' c.start ≡ true → ((k : ℕ) → k ≢ c.start → has' k ≡ has k)
+    → (length firsts < 5 → firsts' ≡ firsts ++ c.start ∷ []) → (length firsts ≡ 5 → firsts' ≡ firsts) → IsSoFar words (at + c.words) has' firsts'
+walk_goes_on words firsts firsts' at c has has' s below object added others more full =
+    let h = object.head in
+    let next : behind words at ≡ start_before c.start (behind words (at + c.words)) =
+    behind_object words at h below object.is
+    ∙ (ap (λ n. start_before n (behind words (at + h.words))) (sym object.start_is) ∙ ap (λ n. start_before c.start (behind words (at + n))) (sym object.words_is)) in
+    let Within : ℕ → Type 0 = λ n. IsWithin words n in
+    record {
+      seen = s.seen ++ c.start ∷ [];
+      so_far = s.so_far ∙ (ap (before s.seen) next ∙ before_push s.seen c.start (behind words (at + c.words)));
+      map = map_more has has' s.seen c.start s.map added others;
+      within = All-push (IsWithin words) s.seen c.start s.within (subst Within (sym object.start_is) (object_within words at h (omega arith) (front (drop at words) h object.is)));
+      first = first_more firsts firsts' s.seen c.start s.first more full;
+    }
 
 pub walk_ends : (words firsts : List ℕ) (at : ℕ) (has : ℕ → Bool) → IsSoFar words at has firsts → length words ≤ at → IsWalked words has firsts
 walk_ends words firsts at has s end =

@@ -3,8 +3,8 @@ use Rattle.std.specs.Prelude.{◌≡◌, ◌≢◌, ◌≤◌, ℕ, ◌%◌, ◌
 use Rattle.spur_graph.specs.ImageFile.{format, header_size, heap_bytes, base, special_word, last_hash, first_segment, header_bytes, spur_format}
 use Rattle.spur_graph.specs.FirstForm.{IsFirstHeader, greatest_base, most_heap_bytes}
 use Rattle.image_load.specs.declared.header.ImageHeader.{ImageHeader}
-use Rattle.image_load.specs.declared.image.LoadError.{LoadError}
-use Rattle.image_load.specs.declared.image.LoadError.TheVariants as errors
+use Rattle.image_load.specs.declared.error.LoadError.{LoadError}
+use Rattle.image_load.specs.declared.error.LoadError.TheVariants as errors
 
 -- the numbers of the header of a file
 pub record IsHeaderOf (file : List ℕ) (h : ImageHeader) : Type 0 where

@@ -21,7 +21,7 @@ const GREATEST_BASE: u64 = 1 << 60;
 const MOST_HEAP_BYTES: u64 = 1 << 30;
 
 /// Bytes of the bridge at the end of a segment.
-pub(crate) const BRIDGE_BYTES: u64 = 16;
+const BRIDGE_BYTES: u64 = 16;
 
 /// What the header of an image says.
 #[derive(Clone, Copy)]

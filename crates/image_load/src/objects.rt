@@ -4,17 +4,17 @@ ghost use Rattle.std.specs.List.{All};
 ghost use Rattle.heap_walk.specs.Starts.{has_start, covered};
 ghost use Rattle.spur_graph.specs.Objects.{starts as starts_of, ordinary_starts};
 ghost use Rattle.spur_graph.specs.FirstForm.{HasInternal, IsFirstHeap};
-ghost use Rattle.image_load.specs.Found.{IsWithin, IsWalked, IsOrdinaryMap, IsFound};
+ghost use Rattle.image_load.specs.Found.{IsWalked, IsOrdinaryMap, IsFound};
 
 use crate::pages::{has_free_lists, has_roots, take_pages};
 use crate::slots::{is_reference, slots_are_good};
 use crate::starts::{FirstStarts, mark_starts};
 use heap_walk::StartMap;
-use spur_words::NoMemory;
+use spur_words::{NoMemory, Region};
 use std::alloc::Global;
 
 /// Takes the internal objects out of the starts; false where the first five objects do not stand as they must.
-fn take_internal(base: u64, words: &[u64], firsts: &[usize], starts: &mut StartMap) -> bool
+fn take_internal(base: u64, words: &Region, firsts: &[usize], starts: &mut StartMap) -> bool
     requires aligned { base % 8 ≡ 0 }
     requires low { base ≤ 2 ^ 60 }
     requires few { length words.now ≤ 2 ^ 27 }
@@ -43,7 +43,7 @@ fn take_internal(base: u64, words: &[u64], firsts: &[usize], starts: &mut StartM
 pub(crate) fn first_objects(
     alloc: Global,
     base: u64,
-    words: &[u64],
+    words: &Region,
     special: u64,
 ) -> Result<Option<FirstStarts>, NoMemory>
     requires aligned { base % 8 ≡ 0 }

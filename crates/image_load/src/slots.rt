@@ -2,51 +2,26 @@
 ghost use Rattle.std.specs.Prelude.{◌≡◌, ◌≢◌, ◌+◌, ◌*◌, ◌%◌, ◌^◌, ◌<◌, ◌≤◌, ℕ, length, IfSome, IfNone, true, false};
 ghost use Rattle.std.specs.List.{All};
 ghost use Rattle.heap_walk.specs.Starts.{has_start, covered};
-ghost use Rattle.spur_graph.specs.Objects.{slots_at, pointer_words, pointer_count_at, address, ordinary_starts};
+ghost use Rattle.spur_graph.specs.Objects.{pointer_words, address, ordinary_starts};
 ghost use Rattle.spur_graph.specs.FirstForm.{IsReference, IsGood};
-ghost use Rattle.image_load.specs.Found.{IsWithin, IsOrdinaryMap};
+ghost use Rattle.spur_graph.specs.Value.{is_immediate_word};
+ghost use Rattle.image_load.specs.Found.{IsOrdinaryMap};
 
 use heap_walk::StartMap;
-use object_header::{Field, Format, Header, OVERFLOW_COUNT};
+use spur_heap::pointer_count_of;
+use spur_words::Region;
 
 /// Bytes of a word.
-pub(crate) const WORD_BYTES: u64 = 8;
+const WORD_BYTES: u64 = 8;
 
-/// The number of slots of the object that starts at the word `start`.
-#[tactic(auto, unfolding(spur_graph::specs::Objects::slots_at))]
-pub(crate) fn slots_of(words: &[u64], start: usize) -> usize
-    requires { IsWithin words.now start }
-    ensures { result ≡ slots_at words.now start }
-{
-    let count = Header(words[start]).count();
-    if count == OVERFLOW_COUNT {
-        Field::<0, 56>::get(words[start - 1]) as usize
-    } else {
-        count as usize
-    }
-}
+/// The low three bits of a SmallInteger.
+const SMALL_INTEGER_TAG: u64 = 1;
 
-/// The number of pointer slots of the object that starts at the word `start`.
-fn pointer_count_of(words: &[u64], start: usize) -> usize
-    requires { IsWithin words.now start }
-    ensures { result ≡ pointer_count_at words.now start }
-{
-    let format = Format::new(Header(words[start]).format() as u8);
-    let literals = Field::<3, 15>::get(words[start + 1]) as usize;
-    format.pointer_slots(slots_of(words, start), literals)
-}
+/// The low three bits of a Character.
+const CHARACTER_TAG: u64 = 2;
 
-/// The words of the pointer slots of the object that starts at the word `start`.
-#[tactic(auto, unfolding(spur_graph::specs::Objects::pointer_words))]
-pub fn pointers_of(words: &[u64], start: usize) -> &[u64]
-    requires { IsWithin words.now start }
-    ensures { result.now ≡ pointer_words words.now start }
-{
-    let count = pointer_count_of(words, start);
-    let (_, behind) = words.split_at(start + 1);
-    let (pointers, _) = behind.split_at(count);
-    pointers
-}
+/// The low three bits of a SmallFloat.
+const SMALL_FLOAT_TAG: u64 = 4;
 
 /// The file address of the word `start` of words whose first has address `base`.
 pub(crate) fn address_of(base: u64, start: usize) -> u64
@@ -75,7 +50,7 @@ pub(crate) fn named_start(base: u64, starts: &StartMap, word: u64) -> Option<usi
 }
 
 /// Whether a word is the address of an ordinary object, whose starts the map has.
-pub(crate) fn is_reference(base: u64, words: &[u64], ordinary: &StartMap, word: u64) -> bool
+pub(crate) fn is_reference(base: u64, words: &Region, ordinary: &StartMap, word: u64) -> bool
     requires aligned { base % 8 ≡ 0 }
     requires covers { covered ordinary.now ≡ length words.now }
     requires map { IsOrdinaryMap base words.now (has_start ordinary.now) }
@@ -85,20 +60,28 @@ pub(crate) fn is_reference(base: u64, words: &[u64], ordinary: &StartMap, word: 
     named_start(base, ordinary, word).is_some()
 }
 
-fn is_good(base: u64, words: &[u64], ordinary: &StartMap, word: u64) -> bool
+/// Whether a word is an immediate: a SmallInteger, a Character whose code is below 2^30, or a SmallFloat.
+fn is_immediate_word(word: u64) -> bool
+    ensures { result ≡ is_immediate_word word }
+{
+    match word % 8 {
+        SMALL_INTEGER_TAG | SMALL_FLOAT_TAG => true,
+        CHARACTER_TAG => word / 8 < 1 << 30,
+        _ => false,
+    }
+}
+
+fn is_good(base: u64, words: &Region, ordinary: &StartMap, word: u64) -> bool
     requires aligned { base % 8 ≡ 0 }
     requires covers { covered ordinary.now ≡ length words.now }
     requires map { IsOrdinaryMap base words.now (has_start ordinary.now) }
     ensures yes { result ≡ true → IsGood base words.now word }
     ensures no { result ≡ false → IsGood base words.now word → ⊥ }
 {
-    if word % WORD_BYTES == 1 {
-        return true;
-    }
-    is_reference(base, words, ordinary, word)
+    is_immediate_word(word) || is_reference(base, words, ordinary, word)
 }
 
-fn are_good(base: u64, words: &[u64], ordinary: &StartMap, slots: &[u64]) -> bool
+fn are_good(base: u64, words: &Region, ordinary: &StartMap, slots: &[u64]) -> bool
     requires aligned { base % 8 ≡ 0 }
     requires covers { covered ordinary.now ≡ length words.now }
     requires map { IsOrdinaryMap base words.now (has_start ordinary.now) }
@@ -114,7 +97,7 @@ fn are_good(base: u64, words: &[u64], ordinary: &StartMap, slots: &[u64]) -> boo
 }
 
 /// Whether each pointer slot of each ordinary object is good.
-pub(crate) fn slots_are_good(base: u64, words: &[u64], ordinary: &StartMap) -> bool
+pub(crate) fn slots_are_good(base: u64, words: &Region, ordinary: &StartMap) -> bool
     requires aligned { base % 8 ≡ 0 }
     requires covers { covered ordinary.now ≡ length words.now }
     requires map { IsOrdinaryMap base words.now (has_start ordinary.now) }
@@ -129,7 +112,7 @@ pub(crate) fn slots_are_good(base: u64, words: &[u64], ordinary: &StartMap) -> b
     true
 }
 
-fn object_is_good(base: u64, words: &[u64], ordinary: &StartMap, start: usize) -> bool
+fn object_is_good(base: u64, words: &Region, ordinary: &StartMap, start: usize) -> bool
     requires aligned { base % 8 ≡ 0 }
     requires covers { covered ordinary.now ≡ length words.now }
     requires map { IsOrdinaryMap base words.now (has_start ordinary.now) }
@@ -137,5 +120,7 @@ fn object_is_good(base: u64, words: &[u64], ordinary: &StartMap, start: usize) -
     ensures yes { result ≡ true → All (IsGood base words.now) (pointer_words words.now start) }
     ensures no { result ≡ false → All (IsGood base words.now) (pointer_words words.now start) → ⊥ }
 {
-    are_good(base, words, ordinary, pointers_of(words, start))
+    let _end = words.len();
+    let count = pointer_count_of(words, start);
+    are_good(base, words, ordinary, words.window(start + 1, count))
 }

@@ -1,37 +1,31 @@
 // The walk over the chunks of a heap that has nothing but objects.
-ghost use Rattle.std.specs.Prelude.{◌≡◌, ◌+◌, ◌<◌, ◌≤◌, ◌++◌, [], ◌∷◌, ℕ, length, take, None, IfSome, IsTrue, true, false};
+ghost use Rattle.std.specs.Prelude.{◌≡◌, ◌+◌, ◌<◌, ◌≤◌, ◌++◌, [], ◌∷◌, ℕ, length, drop, None, IfSome, IfNone, true, false};
 ghost use Rattle.object_header.specs.Head.{head_of};
 ghost use Rattle.heap_walk.specs.Starts.{has_start, covered};
 ghost use Rattle.spur_graph.specs.Objects.{object_head, object_starts};
-ghost use Rattle.image_load.specs.Found.{IsFront, IsWalked};
+ghost use Rattle.image_load.specs.Found.{IsObjectChunk, IsWalked};
 
 use arrayvec::ArrayVec;
-use heap_walk::StartMap;
-use object_header::{Head, HeadError, Header, read_head};
+use heap_walk::{Chunk, ChunkKind, StartMap, next_chunk};
+use spur_words::Region;
 
 /// The starts of nil, false, true, the free lists object and the hidden roots, as far as there are so many objects.
 pub(crate) type FirstStarts = ArrayVec<usize, 5>;
 
-/// The head, where it is that of an object: no free chunk and no forwarder.
-fn object(head: Result<Head, HeadError>) -> Option<Head>
-    ensures { result ≡ object_head head }
+/// The object whose first word is at the index `at`; none where no object begins there.
+fn object_at(words: &Region, at: usize) -> Option<Chunk>
+    requires { at < length words.now }
+    ensures some { IfSome result (IsObjectChunk words.now at) }
+    ensures none { IfNone result (object_head (head_of (drop at words.now)) ≡ None) }
+    ensures place { IfSome result (λ c. (at ≤ c.start) × (c.start + 1 < at + c.words) × (at + c.words ≤ length words.now)) }
 {
-    match head {
-        Ok(head) => match Header(head.header).class() {
-            0 | 8 => None,
-            _ => Some(head),
+    match next_chunk(words, at, words.len()) {
+        Ok(chunk) => match chunk.kind {
+            ChunkKind::Object => Some(chunk),
+            _ => None,
         },
         Err(_) => None,
     }
-}
-
-/// The head of the object at the front of some words.
-fn object_at(words: &[u64]) -> Option<Head>
-    ensures value { result ≡ object_head (head_of words.now) }
-    ensures room { IfSome result (λ h. (1 < h.words) × (h.words ≤ length words.now) × (h.lead ≤ 1)) }
-    ensures front { IfSome result (IsFront words.now) }
-{
-    object(read_head(words))
 }
 
 /// Keeps a start that is one of the first five.
@@ -45,7 +39,7 @@ fn keep_first(firsts: &mut FirstStarts, start: usize)
 }
 
 /// Sets the starts of the objects that the words are cut into; false where they are not cut into objects without a rest.
-pub(crate) fn mark_starts(words: &[u64], starts: &mut StartMap, firsts: &mut FirstStarts) -> bool
+pub(crate) fn mark_starts(words: &Region, starts: &mut StartMap, firsts: &mut FirstStarts) -> bool
     requires covers { covered starts.old ≡ length words.now }
     requires empty { (k : ℕ) → has_start starts.old k ≡ false }
     requires none { firsts.old.items ≡ [] }
@@ -55,14 +49,12 @@ pub(crate) fn mark_starts(words: &[u64], starts: &mut StartMap, firsts: &mut Fir
 {
     let mut at = 0;
     'objects: while at < words.len() {
-        let (_, rest) = words.split_at(at);
-        let Some(head) = object_at(rest) else {
+        let Some(chunk) = object_at(words, at) else {
             return false;
         };
-        let start = at + head.lead;
-        starts.set(start);
-        keep_first(firsts, start);
-        at += head.words;
+        starts.set(chunk.start);
+        keep_first(firsts, chunk.start);
+        at += chunk.words;
     }
     true
 }

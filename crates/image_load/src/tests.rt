@@ -3,7 +3,7 @@ use spur_io::{Files, MemoryFiles};
 use std::test::Fail;
 
 fn loaded(files: &mut MemoryFiles, rt: &HostRuntime) -> Result<(), LoadError> {
-    let _image = load(rt.alloc(), files, "an.image")?;
+    let _heap = load(rt.alloc(), files, "an.image")?;
     Ok(())
 }
 

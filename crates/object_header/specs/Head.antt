@@ -31,9 +31,9 @@ overflow_slots_of word = field_of 0 56 word
 abbrev pub is_unformed : ℕ → Bool
 is_unformed class = nat_eq class FREE_CLASS || nat_eq class FORWARDER_CLASS
 
--- the formats of objects that are read so far are 0, 1, 2 and 9
+-- the formats that no object has: 7 is that of a forwarder, 6 and 8 are reserved
 abbrev pub is_refused_format : ℕ → Bool
-is_refused_format format = not (nat_lt format 3) && not (nat_eq format 9)
+is_refused_format format = nat_lt 5 format && nat_lt format 9
 
 -- the number of literals of a method, from the SmallInteger in its slot 0
 abbrev pub literals_of : ℕ → ℕ

@@ -6,13 +6,13 @@ use crate::format::Format;
 use crate::header::{BRIDGE_CLASS, FORWARDER_CLASS, FREE_CLASS, Header, OVERFLOW_COUNT};
 
 /// The slot count of an overflow word.
-type OverflowSlotsField = Field<0, 56>;
+pub type OverflowSlotsField = Field<0, 56>;
 
 /// The tag of a word that may be a SmallInteger.
 type TagField = Field<0, 3>;
 
 /// The number of literals in the SmallInteger of a method's slot 0.
-type LiteralsField = Field<3, 15>;
+pub type LiteralsField = Field<3, 15>;
 
 const SMALL_INTEGER_TAG: u64 = 1;
 
@@ -123,12 +123,11 @@ fn read_body(words: &[u64], lead: usize, slots: usize) -> Result<Head, HeadError
     read_formed(lead, header, slots, need, words[lead + 1])
 }
 
-/// Whether an object of this format is refused: the formats of objects that are read so far are 0,
-/// 1, 2 and 9.
+/// Whether an object of this format is refused: 6, 7 and 8 are formats that no object has.
 fn is_refused_format(format: u64) -> bool
     ensures { result ≡ is_refused_format format }
 {
-    format > 2 && format != 9
+    format > 5 && format < 9
 }
 
 /// Cuts the slots of an object into pointers and units by its format. `first` is its slot 0.

@@ -30,5 +30,5 @@ pub use field::{
     ReadOnlyField, RememberedField,
 };
 pub use format::Format;
-pub use head::{Head, HeadError, read_head};
+pub use head::{Head, HeadError, LiteralsField, OverflowSlotsField, read_head};
 pub use header::{BRIDGE_CLASS, FORWARDER_CLASS, FREE_CLASS, Header, OVERFLOW_COUNT};

@@ -150,3 +150,98 @@ fn each_refusal_in_its_order(rt: HostRuntime) {
         assert_eq!(rt; read_head(words), Err(want), "{words:?}");
     }
 }
+
+// An object of five slots, the first of which counts two literals in a method: its pointer slots
+// and units by its format, or none where no object has the format.
+const FIVE_SLOTS: [Option<(usize, usize)>; 32] = [
+    Some((5, 0)),
+    Some((5, 0)),
+    Some((5, 0)),
+    Some((5, 0)),
+    Some((5, 0)),
+    Some((5, 0)),
+    None,
+    None,
+    None,
+    Some((0, 5)),
+    Some((0, 10)),
+    Some((0, 9)),
+    Some((0, 20)),
+    Some((0, 19)),
+    Some((0, 18)),
+    Some((0, 17)),
+    Some((0, 40)),
+    Some((0, 39)),
+    Some((0, 38)),
+    Some((0, 37)),
+    Some((0, 36)),
+    Some((0, 35)),
+    Some((0, 34)),
+    Some((0, 33)),
+    Some((3, 16)),
+    Some((3, 15)),
+    Some((3, 14)),
+    Some((3, 13)),
+    Some((3, 12)),
+    Some((3, 11)),
+    Some((3, 10)),
+    Some((3, 9)),
+];
+
+#[test]
+fn each_format_has_its_slots_and_units(rt: HostRuntime) {
+    for (format, want) in FIVE_SLOTS.iter().enumerate() {
+        let header = Header(0x0500_0000_0000_0033).set_format(format as u64);
+        let read = read_head(&[header.0, 0x11, 0, 0, 0, 0]);
+        match want {
+            Some((pointers, units)) => {
+                let head = Head {
+                    header: header.0,
+                    lead: 0,
+                    slots: 5,
+                    words: 6,
+                    pointers: *pointers,
+                    units: *units,
+                };
+                assert_eq!(rt; read, Ok(head), "format {format}");
+            }
+            None => assert_eq!(rt; read, Err(HeadError::BadFormat(format as u8))),
+        }
+    }
+}
+
+#[test]
+fn methods_hold_the_literals_that_they_count(rt: HostRuntime) {
+    // The format, the slots, and what is read: pointer slots and units, or a refusal.
+    let rows: [(u64, &[u64], Option<(usize, usize)>); 7] = [
+        (24, &[0x1], Some((1, 0))),
+        (24, &[0x11, 0, 0], Some((3, 0))),
+        (31, &[0x11, 0, 0, 0], Some((3, 1))),
+        // more unused units than units
+        (25, &[0x11, 0, 0], None),
+        // one literal more than the slots hold
+        (24, &[0x19, 0, 0], None),
+        // slot 0 is no SmallInteger
+        (24, &[0x10, 0, 0], None),
+        (24, &[], None),
+    ];
+    for (format, slots, want) in rows {
+        let mut words = [0; 6];
+        words[0] = Header(0x33)
+            .set_count(slots.len() as u64)
+            .set_format(format)
+            .0;
+        for (i, slot) in slots.iter().enumerate() {
+            if let Some(word) = words.get_mut(i + 1) {
+                *word = *slot;
+            }
+        }
+        let read = read_head(&words);
+        match want {
+            Some(cut) => {
+                assert_eq!(rt; read.map(|head| (head.pointers, head.units)), Ok(cut));
+            }
+            None => assert_eq!(rt; read, Err(HeadError::BadCount)),
+        }
+    }
+}

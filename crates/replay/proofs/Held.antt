@@ -7,7 +7,7 @@ use Rattle.std.specs.declared.cmp.Ordering.TheVariants.{Less, Equal, Greater}
 use Rattle.std.specs.Ordering.{nat_cmp, eq_by_cmp, is_eq, is_lt, ordering_then}
 use Rattle.std.specs.Cmp.{IsTotalOrder}
 use Rattle.std.specs.Cmp.Lexicographic.{slice_cmp}
-use Rattle.std.specs.FinMap.{FinMap, get, len, insert, empty, entries, from_entries, find, is_sorted, IsAntisymmetric, nat_cmp-IsAntisymmetric, slice_cmp-IsAntisymmetric, same_map, get-empty, get-insert, get-entries, get-from_entries, len-empty, len-insert, len-entries, entries_sorted}
+use Rattle.std.specs.FinMap.{FinMap, get, len, insert, remove, empty, entries, from_entries, find, is_sorted, IsAntisymmetric, nat_cmp-IsAntisymmetric, slice_cmp-IsAntisymmetric, same_map, get-empty, get-insert, get-remove, get-entries, get-from_entries, len-empty, len-insert, len-entries, entries_sorted}
 use Rattle.std.specs.FinMap.Entries.{below_all}
 use Rattle.spur_graph.specs.Graph.{Handle, handle_cmp}
 use Rattle.spur_graph.specs.Handles.{handles_total}
@@ -19,6 +19,11 @@ both_equal : (r s : Ordering) → ordering_then r s ≡ Equal → (r ≡ Equal) 
 both_equal Less s is = absurd (subst (λ o. T (is_eq o)) (sym is) tt)
 both_equal Equal s is = (refl, is)
 both_equal Greater s is = absurd (subst (λ o. T (is_eq o)) (sym is) tt)
+
+equal_key : (r : Ordering) → is_eq r ≡ true → r ≡ Equal
+equal_key Less is = cc
+equal_key Equal is = refl
+equal_key Greater is = cc
 
 handles_apart : IsAntisymmetric handle_cmp
 handles_apart a b is =
@@ -88,3 +93,26 @@ handle_values-insert nil held h word = same_map handles_total handles_apart _ _ 
     ∙ ap (option_map (read nil)) (get-insert handles_total held h word q)
     ∙ sym (chosen (read nil) (eq_by_cmp handle_cmp q h) word (get held q) (get (handle_values nil held) q) (get-handle_values nil held q))
     ∙ sym (get-insert handles_total (handle_values nil held) h (read nil word) q))
+
+kept : {X Y : Type 0} (f : X → Y) (b : Bool) (o : Option X) (u : Option Y) → u ≡ option_map f o → cond b None u ≡ option_map f (cond b None o)
+kept f true o u is = refl
+kept f false o u is = is
+
+pub handle_values-remove : (nil : ℕ) (held : FinMap handle_cmp ℕ) (h : Handle) → handle_values nil (remove held h) ≡ remove (handle_values nil held) h
+handle_values-remove nil held h = same_map handles_total handles_apart _ _ (λ q.
+    get-handle_values nil (remove held h) q
+    ∙ ap (option_map (read nil)) (get-remove handles_total held h q)
+    ∙ sym (kept (read nil) (eq_by_cmp handle_cmp q h) (get held q) (get (handle_values nil held) q) (get-handle_values nil held q))
+    ∙ sym (get-remove handles_total (handle_values nil held) h q))
+
+same_key : (q h : Handle) → eq_by_cmp handle_cmp q h ≡ true → q ≡ h
+same_key q h is = handles_apart q h (equal_key (handle_cmp q h) is)
+
+-- without a key that has no value nothing changes
+pub remove-none : (held : FinMap handle_cmp ℕ) (h : Handle) → get held h ≡ None → remove held h ≡ held
+remove-none held h none = same_map handles_total handles_apart _ _ (λ q.
+    get-remove handles_total held h q
+    ∙ elim (eq_by_cmp handle_cmp q h) as (λ b. eq_by_cmp handle_cmp q h ≡ b → cond b None (get held q) ≡ get held q) [
+      | true ↦ λ e. sym (ap (get held) (same_key q h e) ∙ none)
+      | false ↦ λ e. refl
+    ] refl)

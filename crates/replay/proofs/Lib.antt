@@ -1,8 +1,10 @@
 pub mod Held
 pub mod Nodes
 pub mod Graphs
-pub mod Commands
-pub mod Objects
+pub mod Values
+pub mod Firsts
+pub mod Rows
+pub mod Doing
 pub mod Steps
 pub mod ScriptLines
 pub mod Answering

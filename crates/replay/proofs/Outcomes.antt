@@ -11,9 +11,9 @@ use Rattle.spur_graph.specs.Room.{no_room}
 use Rattle.spur_graph.specs.ImageGraph.{image_graph}
 use Rattle.spur_graph.specs.Lines.{lines_of, ended_lines_of}
 use Rattle.spur_graph.specs.Causes.{Cause, Short, Format, Unsupported, FirstCause, IsAccepted, cause_line}
-use Rattle.image_load.specs.declared.image.Image.{Image}
-use Rattle.image_load.specs.declared.image.LoadError.{LoadError}
-use Rattle.image_load.specs.declared.image.LoadError.TheVariants as errors
+use Rattle.spur_heap.specs.declared.heap.Heap.{Heap}
+use Rattle.image_load.specs.declared.error.LoadError.{LoadError}
+use Rattle.image_load.specs.declared.error.LoadError.TheVariants as errors
 use Rattle.image_load.specs.Loaded.{IsImageOf, IsCauseOf}
 use Rattle.replay.specs.declared.session.Session.{Session}
 use Rattle.replay.specs.declared.runs.Stop.{Stop}
@@ -53,7 +53,7 @@ script_outcome words files image script before after (Err stop.Memory) is good r
 script_outcome words files image script before after (Err stop.TooLong) is good run = too_long is run.0 (puts_all files image script (ended_lines_of (take most_script_bytes (files script))) before after good run.1)
 
 -- the same of a session of the image, where the bytes are told
-pub replayed : (told later : Option FileMap) (so_far after : Option (List ℕ)) (words : List Text) (image script : Text) (i : Image) (s : Session) (r : Result (Unit {0}) Stop) (now : Status) → later ≡ told → IsReplay words image script
+pub replayed : (told later : Option FileMap) (so_far after : Option (List ℕ)) (words : List Text) (image script : Text) (i : Heap) (s : Session) (r : Result (Unit {0}) Stop) (now : Status) → later ≡ told → IsReplay words image script
     → IfSome told (λ store. IsAccepted (store image) × IsImageOf (store image) i) → ((bytes : List ℕ) → IsImageOf bytes i → graph_of s ≡ image_graph bytes)
     → IfSome later (λ store. IfSome so_far (λ before. ScriptRun (state_of s store script) store (store script) before after r)) → now ≡ status_of r → IfSome told (λ store. IfSome so_far (λ before. Outcome words store before after now))
 replayed None later so_far after words image script i s r now same is loaded graph run ends = tt

@@ -15,6 +15,7 @@ use Rattle.spur_graph.specs.State.{State, Files}
 use Rattle.spur_graph.specs.Lines.{lines_of, ended_lines_of}
 use Rattle.spur_graph.specs.Step.{Run}
 use Rattle.replay.specs.Answered.{kept_of, Answered, AnsweredPart, AnsweredAll, AnswersPiece, CutsPiece, AnswersEnd, CutsEnd, ScriptRun}
+use Rattle.replay.specs.Runs.{most_script_bytes}
 use Rattle.replay.specs.Stops.{read_stop, put_stop}
 use Rattle.replay.specs.declared.runs.Stop.{Stop}
 use Rattle.replay.specs.declared.runs.Stop.TheVariants as stop
@@ -78,7 +79,7 @@ Ran told start first script after r = IfSome told (λ store. IfSome start (λ be
 
 -- the byte past the limit was read
 pub ran_too_long : (told later : Option FileMap) (start after : Option (List ℕ)) (first next : Files → Text → State) (script into kept : List ℕ) (at count taken : ℕ) → KeepsFiles next → later ≡ told → Reads later script at into (Ok count)
-    → at ≤ 65536 → taken ≡ min count (65536 - at) → taken < count → ReadTo told start first next script (at + taken) kept after → Ran told start first script after (Err stop.TooLong)
+    → at ≤ most_script_bytes → taken ≡ min count (most_script_bytes - at) → taken < count → ReadTo told start first next script (at + taken) kept after → Ran told start first script after (Err stop.TooLong)
 ran_too_long None later start after first next script into kept at count taken same_files same reads low is less so = tt
 ran_too_long (Some told) None start after first next script into kept at count taken same_files same reads low is less so = cc
 ran_too_long (Some told) (Some later) None after first next script into kept at count taken same_files same reads low is less so = tt
@@ -86,13 +87,13 @@ ran_too_long (Some told) (Some later) (Some before) after first next script into
     let one : later ≡ told = cc in
     let G : FileMap → Type 0 = λ store. Gives (store script) at into count in
     let gives : Gives (told script) at into count = subst G one reads in
-    let limit : at + taken ≡ 65536 = omega arith in
+    let limit : at + taken ≡ most_script_bytes = omega arith in
     let A : ℕ → Type 0 = λ n. AnsweredAll (first told script) told (ended_lines_of (take n (told script))) before after in
     (omega (arith, gives.within, length-drop at (told script)), subst A limit (whole_ended (first told script) (next told script) told (take (at + taken) (told script)) kept before after (same_files told script) so.answered))
 
 -- the whole file was read
-pub read_all : (told later : Option FileMap) (start so_far : Option (List ℕ)) (first now : Files → Text → State) (script into kept : List ℕ) (at count : ℕ) → later ≡ told → Reads later script at into (Ok count) → count ≡ 0 → at ≤ 65536
-    → ReadTo told start first now script at kept so_far → IfSome told (λ store. IfSome start (λ before. (length (store script) ≤ 65536) × Answered (first store script) (now store script) (store script) kept before so_far))
+pub read_all : (told later : Option FileMap) (start so_far : Option (List ℕ)) (first now : Files → Text → State) (script into kept : List ℕ) (at count : ℕ) → later ≡ told → Reads later script at into (Ok count) → count ≡ 0 → at ≤ most_script_bytes
+    → ReadTo told start first now script at kept so_far → IfSome told (λ store. IfSome start (λ before. (length (store script) ≤ most_script_bytes) × Answered (first store script) (now store script) (store script) kept before so_far))
 read_all None later start so_far first now script into kept at count same reads none low so = tt
 read_all (Some told) None start so_far first now script into kept at count same reads none low so = cc
 read_all (Some told) (Some later) None so_far first now script into kept at count same reads none low so = tt
@@ -106,7 +107,7 @@ read_all (Some told) (Some later) (Some before) so_far first now script into kep
 
 -- every line was answered
 pub ran_done : (told : Option FileMap) (start so_far after : Option (List ℕ)) (first now : Files → Text → State) (script kept : List ℕ) (x : Unit {0})
-    → IfSome told (λ store. IfSome start (λ before. (length (store script) ≤ 65536) × Answered (first store script) (now store script) (store script) kept before so_far))
+    → IfSome told (λ store. IfSome start (λ before. (length (store script) ≤ most_script_bytes) × Answered (first store script) (now store script) (store script) kept before so_far))
     → AnswersEnd now kept so_far after → Ran told start first script after (Ok x)
 ran_done None start so_far after first now script kept x all answers = tt
 ran_done (Some told) None so_far after first now script kept x all answers = tt
@@ -119,7 +120,7 @@ part_stopped first files text before after sink.Memory part = part
 
 -- the put of the last line was refused
 pub ran_last : (told : Option FileMap) (start so_far after : Option (List ℕ)) (first now : Files → Text → State) (script kept : List ℕ) (e : SinkFault)
-    → IfSome told (λ store. IfSome start (λ before. (length (store script) ≤ 65536) × Answered (first store script) (now store script) (store script) kept before so_far))
+    → IfSome told (λ store. IfSome start (λ before. (length (store script) ≤ most_script_bytes) × Answered (first store script) (now store script) (store script) kept before so_far))
     → CutsEnd now kept so_far after → Ran told start first script after (Err (put_stop e))
 ran_last None start so_far after first now script kept e all cuts = tt
 ran_last (Some told) None so_far after first now script kept e all cuts = tt

@@ -1,25 +1,26 @@
 -- Steps of a session, under its own names.
-use Rattle.std.proofs.Common.{◌≡◌, inl, inr, ◌≤◌, ◌<◌, ℕ, List, length, refl, sym, subst, ap, ◌∙◌, None, Some, arith}
+use Rattle.std.proofs.Common.{◌≡◌, inl, inr, ◌≤◌, ◌<◌, ℕ, length, refl, subst, ap, None, Some, arith}
 use Rattle.std.specs.Prelude.{Result, Ok, Err, IfOk, IfErr, OnErr}
-use Rattle.std.specs.Result.{result_unwrap_or}
+use Rattle.std.specs.Result.{result_err}
 use Rattle.std.specs.FinMap.{get}
 use Rattle.spur_graph.specs.declared.answer.Answer.{Answer}
 use Rattle.spur_graph.specs.declared.answer.Answer.TheVariants as answers
 use Rattle.spur_graph.specs.declared.answer.Refusal.{Refusal}
 use Rattle.spur_graph.specs.declared.answer.Refusal.TheVariants as r
 use Rattle.spur_graph.specs.Bytes.{Text}
-use Rattle.spur_graph.specs.Graph.{Graph, bind}
+use Rattle.spur_graph.specs.Graph.{Graph}
 use Rattle.spur_graph.specs.Names.{Iso}
 use Rattle.spur_graph.specs.Room.{no_room}
-use Rattle.spur_graph.specs.Form.{Form, Special}
-use Rattle.spur_graph.specs.Words.{words_of}
-use Rattle.spur_graph.specs.Rows.{IsCommand}
-use Rattle.spur_graph.specs.State.{State, Files, bound}
+use Rattle.spur_graph.specs.Form.{Form}
+use Rattle.spur_graph.specs.State.{State, Files}
 use Rattle.spur_graph.specs.Refused.{refused}
 use Rattle.spur_graph.specs.Does.{Does}
-use Rattle.spur_graph.specs.Step.{longest_line, Renamed, Answers, Step, long, syntax, refusal, done}
-use Rattle.spur_graph.specs.declared.answer.Value.{Value}
-use Rattle.replay.specs.Sessions.{StandsFor}
+use Rattle.spur_graph.specs.Step.{longest_line, Reads, Renamed, Answers, Step, long, syntax, refusal, done}
+use Rattle.spur_heap.specs.Heaps.{IsHeap}
+use Rattle.replay.specs.declared.session.Session.{Session}
+use Rattle.replay.specs.Sessions.{graph_of, state_of, StandsFor}
+use Rattle.replay.specs.Commands.{Steps, Refuses, Obeys}
+use Rattle.replay.proofs.Graphs.{names_fresh}
 
 -- the state of a graph without room
 abbrev pub state_with : Graph → Files → Text → State
@@ -47,45 +48,34 @@ too_long bytes line above stands = elim stands [ inl same ↦ omega (arith, abov
 same_line : (bytes line : Text) → length bytes ≤ longest_line → StandsFor bytes line → bytes ≡ line
 same_line bytes line short stands = elim stands [ inl same ↦ same | inr both ↦ absurd (omega (arith, short, both.0)) ]
 
-pub long_answer : (s : State) (bytes line : Text) → longest_line < length bytes → StandsFor bytes line → Answers s line (answers.Refused r.Unsupported) s
+pub long_answer : (s : State) (bytes line : Text) → longest_line < length bytes → StandsFor bytes line → Answers s line (answers.Refused r.Long) s
 long_answer s bytes line above stands = long (too_long bytes line above stands)
 
-pub syntax_answer : (s : State) (bytes line : Text) → length bytes ≤ longest_line → StandsFor bytes line → ((form : Form) → IsCommand (words_of bytes) form → ⊥) → Answers s line (answers.Refused r.Unsupported) s
+pub syntax_answer : (s : State) (bytes line : Text) → length bytes ≤ longest_line → StandsFor bytes line → ((k : ℕ) (form : Form) → Reads bytes k form → ⊥) → Answers s line (answers.Refused r.Syntax) s
 syntax_answer s bytes line short stands none =
-    let P : Text → Type 0 = λ text. Answers s text (answers.Refused r.Unsupported) s in
-    subst P (same_line bytes line short stands) (syntax short (λ k form (zeroth, is). none form is))
+    let P : Text → Type 0 = λ text. Answers s text (answers.Refused r.Syntax) s in
+    subst P (same_line bytes line short stands) (syntax short none)
 
-pub refused_answer : (old new : State) (bytes line : Text) (form : Form) (why : Refusal) → length bytes ≤ longest_line → StandsFor bytes line → IsCommand (words_of bytes) form → refused old 0 form ≡ Some why → new ≡ old → Answers old line (answers.Refused r.Unsupported) new
-refused_answer old new bytes line form why short stands reads is same =
-    let P : Text → Type 0 = λ text. Answers old text (answers.Refused r.Unsupported) new in
-    subst P (same_line bytes line short stands) (refusal 0 form why short (refl, reads) is same)
+pub refused_answer : (old new : State) (bytes line : Text) (k : ℕ) (form : Form) (why : Refusal) → length bytes ≤ longest_line → StandsFor bytes line → Reads bytes k form → refused old k form ≡ Some why → new ≡ old → Answers old line (answers.Refused why) new
+refused_answer old new bytes line k form why short stands reads is same =
+    let P : Text → Type 0 = λ text. Answers old text (answers.Refused why) new in
+    subst P (same_line bytes line short stands) (refusal k form why short reads is same)
 
-pub done_answer : (old new : State) (bytes line : Text) (form : Form) (answer : Answer) → length bytes ≤ longest_line → StandsFor bytes line → IsCommand (words_of bytes) form → (refused old 0 form ≡ None) × Does old 0 form answer new → Answers old line answer new
-done_answer old new bytes line form answer short stands reads does =
+pub done_answer : (old new : State) (bytes line : Text) (k : ℕ) (form : Form) (answer : Answer) → length bytes ≤ longest_line → StandsFor bytes line → Reads bytes k form → (refused old k form ≡ None) × Does old k form answer new → Answers old line answer new
+done_answer old new bytes line k form answer short stands reads does =
     let P : Text → Type 0 = λ text. Answers old text answer new in
-    subst P (same_line bytes line short stands) (done 0 form short (refl, reads) does.0 does.1)
+    subst P (same_line bytes line short stands) (done k form short reads does.0 does.1)
 
--- the state after a handle was bound
-pub state_bound : (old new : Graph) (files : Files) (script : Text) (k : ℕ) (h : List ℕ) (v : Value) → new ≡ bind old k h v → state_with new files script ≡ bound (state_with old files script) k h v
-state_bound old new files script k h v is = ap (λ g. state_with g files script) is
+-- the answers of a session, by what a command is answered
+module _ (old new : Session) (bytes : Text) (k : ℕ) (form : Form) (short : length bytes ≤ longest_line) (reads : Reads bytes k form) (same_names : (g : Graph) → Iso g g (λ a. a) (λ a. a)) (sound : IsHeap new.heap) where
+  pub done_steps : (result : Result Answer Refusal) → Refuses old k form (result_err result) → IfOk result (λ answer. Obeys old k form answer new) → IfOk result (λ answer. Steps old bytes answer new)
+  done_steps (Ok answer) passes does = λ files script line stands.
+      step_of (state_of old files script) (state_of new files script) line answer
+      (done_answer (state_of old files script) (state_of new files script) bytes line k form answer short stands reads (passes files script, does files script)) (same_names (graph_of new)) (names_fresh new sound)
+  done_steps (Err why) passes does = tt
 
-pub state_same : (old new : Graph) (files : Files) (script : Text) → new ≡ old → state_with new files script ≡ state_with old files script
-state_same old new files script is = ap (λ g. state_with g files script) is
-
--- `special` binds the special objects
-pub special_does : (old new : Graph) (files : Files) (script : Text) (k : ℕ) (h : List ℕ) (v : Value) → old.special ≡ v → new ≡ bind old k h v → Does (state_with old files script) k (Special h) answers.Done (state_with new files script)
-special_does old new files script k h v named is = (refl, state_bound old new files script k h v is ∙ ap (λ w. bound (state_with old files script) k h w) (sym named))
-
--- where a command was done, its line was answered, and where it was refused, its line was
-pub answered : {X E : Type 0} (Done Answered : X → Type 0) (result : Result X E) → ((x : X) → Done x → Answered x) → IfOk result Done → IfOk result Answered
-answered Done Answered (Ok x) so did = so x did
-answered Done Answered (Err e) so did = tt
-
-pub turned_down : {X E : Type 0} (Refused TurnedDown : E → Type 0) (Same : Type 0) (result : Result X E) → ((e : E) → Refused e → Same → TurnedDown e) → IfErr result Refused → OnErr result Same → IfErr result TurnedDown
-turned_down Refused TurnedDown Same (Ok x) so is same = tt
-turned_down Refused TurnedDown Same (Err e) so is same = so e is same
-
--- what holds of an answer, and of the other value where there is none, holds of the one that is taken
-pub either_way : {X E : Type 0} (P : X → Type 0) (result : Result X E) (other : X) → IfOk result P → IfErr result (λ e. P other) → P (result_unwrap_or result other)
-either_way P (Ok x) other good bad = good
-either_way P (Err e) other good bad = bad
+  pub refused_steps : (result : Result Answer Refusal) → Refuses old k form (result_err result) → OnErr result (graph_of new ≡ graph_of old) → IfErr result (λ why. Steps old bytes (answers.Refused why) new)
+  refused_steps (Ok answer) refuses same = tt
+  refused_steps (Err why) refuses same = λ files script line stands.
+      step_of (state_of old files script) (state_of new files script) line (answers.Refused why)
+      (refused_answer (state_of old files script) (state_of new files script) bytes line k form why short stands reads (refuses files script) (ap (λ g. state_with g files script) same)) (same_names (graph_of new)) (names_fresh new sound)

@@ -1,5 +1,5 @@
 -- What a run of the program puts, by its status.
-use Rattle.std.specs.Prelude.{◌≡◌, ◌≤◌, ◌<◌, ℕ, List, [], ◌∷◌, ◌++◌, take, length, slice_index, codes, Option, Some}
+use Rattle.std.specs.Prelude.{◌≡◌, ◌≤◌, ◌<◌, ℕ, ◌^◌, List, [], ◌∷◌, ◌++◌, take, length, slice_index, codes, Option, Some}
 use Rattle.std.specs.List.{flat_map}
 use Rattle.spur_io.specs.Causes.{Rose}
 use Rattle.spur_graph.specs.declared.answer.Answer.{Answer}
@@ -16,7 +16,7 @@ use Rattle.replay.specs.declared.runs.Status.TheVariants as status
 
 -- the most bytes that a script may have
 abbrev pub most_script_bytes : ℕ
-most_script_bytes = 65536
+most_script_bytes = 2 ^ 32
 
 -- a text that names a file on a command line: it is not empty, and does not begin with `-`
 pub record IsPath (name : Text) : Type 0 where

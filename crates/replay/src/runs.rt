@@ -19,7 +19,7 @@ use spur_io::{FileFault, Files, Sink, SinkFault};
 use std::alloc::Global;
 
 /// The most bytes that a script may have.
-const MOST_SCRIPT_BYTES: usize = 65_536;
+const MOST_SCRIPT_BYTES: u64 = 1 << 32;
 
 /// Bytes of the script that are read at once.
 const PIECE_BYTES: usize = 4_096;
@@ -42,7 +42,7 @@ pub enum Status {
     WriteFault,
     /// There was no memory.
     Memory,
-    /// The script has more than 65,536 bytes.
+    /// The script has more than 2^32 bytes.
     TooLong,
 }
 
@@ -190,17 +190,17 @@ fn answer_script<F: Files, K: Sink>(
     let mut piece = [0; PIECE_BYTES];
     let mut at = 0;
     'pieces: loop {
-        let most = PIECE_BYTES.min(MOST_SCRIPT_BYTES + 1 - at);
-        let count = files.read_at(script, at as u64, &mut piece[..most])?;
+        let most = (PIECE_BYTES as u64).min(MOST_SCRIPT_BYTES + 1 - at);
+        let count = files.read_at(script, at, &mut piece[..most as usize])?;
         if count == 0 {
             break 'pieces;
         }
-        let taken = count.min(MOST_SCRIPT_BYTES - at);
+        let taken = (count as u64).min(MOST_SCRIPT_BYTES - at) as usize;
         answer_piece(session, &mut open_line, &piece[..taken], out)?;
         if taken < count {
             return Err(Stop::TooLong);
         }
-        at += count;
+        at += count as u64;
     }
     answer_last(session, &open_line, out)?;
     Ok(())
@@ -263,11 +263,11 @@ fn replay<F: Files, K: Sink>(
     ensures writes { F.write_count files.new ≡ F.write_count files.old }
     ensures same { F.told files.new ≡ F.told files.old }
 {
-    let image = match load(alloc, files, image) {
-        Ok(image) => image,
+    let heap = match load(alloc, files, image) {
+        Ok(heap) => heap,
         Err(error) => return refuse(error, out),
     };
-    let Ok(mut session) = Session::new(alloc, image) else {
+    let Ok(mut session) = Session::new(alloc, heap) else {
         return Status::Memory;
     };
     match answer_script(&mut session, files, script, out) {

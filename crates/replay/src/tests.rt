@@ -12,8 +12,14 @@ const FIRST_ANSWERS: &str = "ok\nok\nobject 32 1\n";
 const USAGE: &str =
     "usage: spur replay IMAGE SCRIPT [--eden W] [--survivor W] [--room W] [--saved W] | spur drill START LINES\n";
 
+mod handles;
+mod lines;
+mod slots;
+mod units;
+mod values;
+
 /// A store with the base image and this script.
-fn store(alloc: Global, script: &str) -> Result<MemoryFiles, Fail> {
+pub(crate) fn store(alloc: Global, script: &str) -> Result<MemoryFiles, Fail> {
     let mut files = MemoryFiles::new(alloc)?;
     write_base_image(&mut files, "base.image")?;
     files.append("a.script", script.as_bytes())?;
@@ -21,7 +27,12 @@ fn store(alloc: Global, script: &str) -> Result<MemoryFiles, Fail> {
 }
 
 /// Puts some bytes of the base image in place of others.
-fn patch(alloc: Global, files: &mut MemoryFiles, at: usize, bytes: &[u8]) -> Result<(), Fail> {
+pub(crate) fn patch(
+    alloc: Global,
+    files: &mut MemoryFiles,
+    at: usize,
+    bytes: &[u8],
+) -> Result<(), Fail> {
     let mut image = Vec::from_elem(alloc, 0, 50_416)?;
     read_full(files, "base.image", 0, image.as_mut_slice())?;
     'bytes: for (i, byte) in bytes.iter().enumerate() {
@@ -50,7 +61,7 @@ fn status(
 }
 
 /// Asserts the status of a replay of these files, and what was put.
-fn check(
+pub(crate) fn check(
     rt: &impl Abort,
     alloc: Global,
     files: &mut MemoryFiles,
@@ -69,8 +80,28 @@ fn check(
     Ok(())
 }
 
+/// Asserts that each of these lines is answered by the text beside it.
+pub(crate) fn check_rows(
+    rt: &impl Abort,
+    alloc: Global,
+    files: &mut MemoryFiles,
+    rows: &[(&str, &str)],
+) -> Result<(), Fail> {
+    let mut script = String::new(alloc);
+    let mut answers = String::new(alloc);
+    for (line, answer) in rows.iter() {
+        script.push_str(line)?;
+        script.push_str("\n")?;
+        answers.push_str(answer)?;
+        answers.push_str("\n")?;
+    }
+    files.begin("a.script")?;
+    files.append("a.script", script.as_bytes())?;
+    check(rt, alloc, files, Status::Done, answers.as_str())
+}
+
 #[test]
-fn rows_are_answered(rt: HostRuntime) -> Result<(), Fail> {
+fn the_last_line_needs_no_line_feed(rt: HostRuntime) -> Result<(), Fail> {
     check(
         &rt,
         rt.alloc(),
@@ -84,36 +115,6 @@ fn rows_are_answered(rt: HostRuntime) -> Result<(), Fail> {
         &mut store(rt.alloc(), "special s\nfetch c s 3\nkind c")?,
         Status::Done,
         FIRST_ANSWERS,
-    )?;
-    check(
-        &rt,
-        rt.alloc(),
-        &mut store(
-            rt.alloc(),
-            "special s\nfetch c s 3\nfetch f c 2\nkind f\nkind q\n",
-        )?,
-        Status::Done,
-        "ok\nok\nok\nint 131072\n! unsupported\n",
-    )?;
-    check(
-        &rt,
-        rt.alloc(),
-        &mut store(
-            rt.alloc(),
-            "special s\nfetch n s 0\nkind n\nfetch f s 1\nkind f\nfetch t s 2\nkind t\nkind s\n",
-        )?,
-        Status::Done,
-        "ok\nok\nnil\nok\nfalse\nok\ntrue\nobject 51 2\n",
-    )?;
-    check(
-        &rt,
-        rt.alloc(),
-        &mut store(
-            rt.alloc(),
-            "\nspecial s \n@0 special s\nspecial S\nstat\nspecial s\nfetch x s 10\n",
-        )?,
-        Status::Done,
-        "! unsupported\n! unsupported\n! unsupported\n! unsupported\n! unsupported\nok\n! unsupported\n",
     )?;
     check(
         &rt,
@@ -227,14 +228,14 @@ fn other_words_are_misused(rt: HostRuntime) -> Result<(), Fail> {
 
 #[test]
 fn each_read_may_fail(rt: HostRuntime) -> Result<(), Fail> {
-    let put = ["", "", "", FIRST_ANSWERS];
+    let put = ["", "", "", "", FIRST_ANSWERS];
     'reads: for (k, put) in put.iter().enumerate() {
         let mut files = store(rt.alloc(), FIRST_SCRIPT)?;
         files.fail_calls(rt.alloc(), CallKind::Read, k as u64 + 1)?;
         check(&rt, rt.alloc(), &mut files, Status::ReadFault, put)?;
     }
     let mut files = store(rt.alloc(), FIRST_SCRIPT)?;
-    files.fail_calls(rt.alloc(), CallKind::Read, 5)?;
+    files.fail_calls(rt.alloc(), CallKind::Read, 6)?;
     check(&rt, rt.alloc(), &mut files, Status::Done, FIRST_ANSWERS)
 }
 
@@ -261,20 +262,4 @@ fn reads_may_be_short(rt: HostRuntime) -> Result<(), Fail> {
     let mut files = store(rt.alloc(), FIRST_SCRIPT)?;
     files.limit_reads(1);
     check(&rt, rt.alloc(), &mut files, Status::Done, FIRST_ANSWERS)
-}
-
-#[test]
-fn script_has_a_limit(rt: HostRuntime) -> Result<(), Fail> {
-    // 16 lines of 4,096 bytes with their line feeds
-    let mut files = store(rt.alloc(), "")?;
-    let line = [b'x'; 4_095];
-    'lines: for _ in 0..16 {
-        files.append("a.script", &line)?;
-        files.append("a.script", b"\n")?;
-    }
-    let long =
-        "! unsupported\n! unsupported\n! unsupported\n! unsupported\n! unsupported\n! unsupported\n! unsupported\n! unsupported\n! unsupported\n! unsupported\n! unsupported\n! unsupported\n! unsupported\n! unsupported\n! unsupported\n! unsupported\n";
-    check(&rt, rt.alloc(), &mut files, Status::Done, long)?;
-    files.append("a.script", b"x")?;
-    check(&rt, rt.alloc(), &mut files, Status::TooLong, long)
 }

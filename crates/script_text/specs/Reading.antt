@@ -4,17 +4,11 @@ use Rattle.std.specs.Borrow.{Bor}
 use Rattle.spur_graph.specs.Bytes.{Text}
 use Rattle.spur_graph.specs.Words.{words_of}
 use Rattle.spur_graph.specs.Form.{Form, view}
-use Rattle.spur_graph.specs.Rows.{IsCommand, IsLine}
+use Rattle.spur_graph.specs.Rows.{IsLine}
 use Rattle.spur_graph.specs.Step.{longest_line}
-use Rattle.spur_graph.specs.declared.command.Command.{Command}
 use Rattle.spur_graph.specs.declared.command.Line.{Line}
 use Rattle.script_text.specs.declared.line.Syntax.{Syntax}
 use Rattle.script_text.specs.declared.line.Syntax.TheVariants as faults
-
--- the command that the words of the line are, or none where they are no command
-abbrev pub ReadsCommand : Option Command → Text → Type 0
-ReadsCommand (Some command) line = IsCommand (words_of line) (view command)
-ReadsCommand None line = (form : Form) → IsCommand (words_of line) form → ⊥
 
 -- the mutator and the command that the words of a line of at most 1,024 bytes are, or why there are none
 abbrev pub ReadsLine : Result Line Syntax → Text → Type 0

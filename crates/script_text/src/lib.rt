@@ -1,7 +1,7 @@
 //! The text of a script: lines read as commands, and answers written as lines.
 //!
-//! [`read_line`] and [`read_command`] read one line without its line feed, and [`write_answer`] writes the line that
-//! answers it. None takes memory.
+//! [`read_line`] reads one line without its line feed, and [`write_answer`] writes the line that answers it. Neither takes
+//! memory.
 //!
 //! The layer above rests on three facts. A line is read as a command exactly where the table of commands
 //! (`spur_graph`, `IsCommand` and `IsLine`) has its words, so what is refused as no line is none. No line has two
@@ -24,4 +24,4 @@ mod word;
 
 pub use answer::write_answer;
 pub use laws::{answers_are_lines, one_reading, words_are_line};
-pub use line::{Syntax, read_command, read_line};
+pub use line::{Syntax, read_line};

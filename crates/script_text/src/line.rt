@@ -1,12 +1,12 @@
 // A line of a script: an optional mark of a mutator, and a command.
 ghost use Rattle.spur_graph.specs.Words.{words_of};
 ghost use Rattle.script_text.specs.Grammar.{line_of};
-ghost use Rattle.script_text.specs.Reading.{ReadsCommand, ReadsLine, GivesLine};
+ghost use Rattle.script_text.specs.Reading.{ReadsLine, GivesLine};
 
 use crate::command::command_of;
 use crate::number::mutator_of;
 use crate::word::cut;
-use spur_graph::{Command, Line};
+use spur_graph::Line;
 
 /// The greatest length of a line in bytes, without its line feed.
 const LONGEST_LINE: usize = 1024;
@@ -18,15 +18,6 @@ pub enum Syntax {
     Long,
     /// The grammar has no such line.
     Bad,
-}
-
-/// Reads a command from a line without its line feed and without a mark of a mutator: `None` exactly where the table of
-/// commands has no such words. A line of any length is read, so it is for the caller to refuse one that is too long.
-#[tactic(auto, using(crate::proofs::Complete::complete, crate::proofs::Sound::sound))]
-pub fn read_command(line: &[u8]) -> Option<Command>
-    ensures { ReadsCommand result line.now }
-{
-    command_of(line)
 }
 
 /// Reads one line without its line feed. A line without a mark `@` is of mutator 0. `Long` comes exactly where there

@@ -1,6 +1,6 @@
 // Lines and answers as the language's own description has them.
 
-use crate::{Syntax, read_command, read_line, write_answer};
+use crate::{Syntax, read_line, write_answer};
 use arrayvec::ArrayVec;
 use spur_graph::{Answer, Command, FileName, Full, HandleName, Refusal, SegmentCause, Shown, Stat};
 use std::process::Abort;
@@ -13,13 +13,8 @@ fn file(rt: &impl Abort, text: &str) -> FileName {
     FileName::from(text).expect(rt, "a file's name has at most 64 bytes")
 }
 
-/// Both readers give this command for a line without a mark, and the reader of lines gives it to mutator 0.
+/// A line without a mark is read as this command of mutator 0.
 fn check(rt: &impl Abort, text: &str, command: Command) {
-    let same = match read_command(text.as_bytes()) {
-        Some(read) => read == command,
-        None => false,
-    };
-    assert!(rt; same, "at {text}");
     let same = match read_line(text.as_bytes()) {
         Ok(line) => line.mutator == 0 && line.command == command,
         Err(_) => false,
@@ -214,7 +209,6 @@ fn a_mark_names_one_of_16_mutators(rt: HostRuntime) {
             Err(_) => false,
         };
         assert!(rt; same, "at {text}");
-        assert!(rt; read_command(text.as_bytes()).is_none(), "at {text}");
     }
     for text in [
         "@16 gc", "@01 gc", "@-1 gc", "@ gc", "@3", "@3 ", "@a gc", "@1 @2 gc", "@2  gc", "gc @2",
@@ -245,7 +239,6 @@ fn words_stand_one_space_apart(rt: HostRuntime) {
         "h",
     ] {
         assert!(rt; is_bad(text.as_bytes()), "at {text}");
-        assert!(rt; read_command(text.as_bytes()).is_none(), "at {text}");
     }
 }
 

@@ -1,7 +1,8 @@
--- The images that are loaded: one segment of nothing but objects of the formats that a head is read of, 0, 1, 2 and 9, whose slots name objects or are SmallIntegers.
-use Rattle.std.specs.Prelude.{◌≡◌, ◌≢◌, ◌⊎◌, ◌≤◌, ◌<◌, ℕ, ◌+◌, ◌%◌, ◌^◌, List, [], ◌∷◌, length, slice_index, IsSome}
+-- The images that are loaded: one segment of nothing but objects, whose pointer slots name ordinary objects or are immediates.
+use Rattle.std.specs.Prelude.{◌≡◌, ◌≢◌, ◌⊎◌, ◌≤◌, ◌<◌, ℕ, ◌+◌, ◌%◌, ◌^◌, List, [], ◌∷◌, length, slice_index, IsSome, true}
 use Rattle.std.specs.List.{All, Contains}
 use Rattle.object_header.specs.Head.{format_of}
+use Rattle.spur_graph.specs.Value.{is_immediate_word}
 use Rattle.spur_graph.specs.ImageFile.{header_size, heap_bytes, base, special_word, first_segment, header_bytes, heap_words, bridge, object_words}
 use Rattle.spur_graph.specs.Objects.{starts, object_starts, address, slots_at, header_at, pointer_words, first_start, nil_start, free_lists_start, roots_start, roots_slots, page_places, page_entries, page_slots, ordinary_starts}
 
@@ -27,9 +28,9 @@ pub record IsFirstHeader (bytes : List ℕ) : Type 0 where
 abbrev pub IsReference : ℕ → List ℕ → ℕ → Type 0
 IsReference base words w = (s : ℕ) × Contains (ordinary_starts base words) s × (w ≡ address base s)
 
--- a SmallInteger, or the address of an ordinary object
+-- an immediate, or the address of an ordinary object
 abbrev pub IsGood : ℕ → List ℕ → ℕ → Type 0
-IsGood base words w = (w % 8 ≡ 1) ⊎ IsReference base words w
+IsGood base words w = (is_immediate_word w ≡ true) ⊎ IsReference base words w
 
 -- the address of an object that can be a class table page: of format 2 with 1,024 slots, and none of the first five
 pub record IsPage (base : ℕ) (words : List ℕ) (w : ℕ) : Type 0 where

@@ -1,11 +1,11 @@
 -- The graph of objects: nodes by name, and what the roots name.
-use Rattle.std.specs.Prelude.{◌≡◌, ◌≢◌, ◌≤◌, ◌<◌, ℕ, ◌^◌, List, [], ◌∷◌, Option, Some, None, false, map}
+use Rattle.std.specs.Prelude.{◌≡◌, ◌≢◌, ◌≤◌, ◌<◌, ℕ, ◌^◌, List, [], ◌∷◌, Option, Some, None, false}
 use Rattle.std.specs.Option.{unwrap_or}
 use Rattle.std.specs.List.{All, AllPairs, flat_map}
 use Rattle.std.specs.declared.cmp.Ordering.{Ordering}
 use Rattle.std.specs.Ordering.{nat_cmp, ordering_then}
 use Rattle.std.specs.Cmp.Lexicographic.{slice_cmp}
-use Rattle.std.specs.FinMap.{FinMap, get, insert, entries, from_entries}
+use Rattle.std.specs.FinMap.{FinMap, get, insert, remove}
 use Rattle.spur_graph.specs.declared.answer.Value.{Value}
 use Rattle.spur_graph.specs.declared.answer.Value.TheVariants.{Ref}
 use Rattle.spur_graph.specs.Value.{IsValue}
@@ -49,6 +49,14 @@ held g k h = get g.handles (k, h)
 -- a handle is bound, anew or again
 abbrev pub bind : Graph → ℕ → Text → Value → Graph
 bind g k h v = record g { handles = insert g.handles (k, h) v }
+
+-- a handle is held no longer
+abbrev pub unbind : Graph → ℕ → Text → Graph
+unbind g k h = record g { handles = remove g.handles (k, h) }
+
+-- a name has this node, anew or again
+abbrev pub with_node : Graph → ℕ → Node → Graph
+with_node g a n = record g { nodes = insert g.nodes a n }
 
 -- the names that wait among the mourners
 abbrev pub waiting : Graph → List ℕ

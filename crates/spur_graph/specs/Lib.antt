@@ -4,6 +4,17 @@ pub mod Graph
 pub mod Handles
 pub mod Names
 pub mod Room
+pub mod Segments
+pub mod Chunks
+pub mod Chains
+pub mod Cells
+pub mod Ordinary
+pub mod CellGraph
+pub mod Places
+pub mod ImageCauses
+pub mod CellRoom
+pub mod Heaps
+pub mod LoadedGraph
 pub mod Words
 pub mod Form
 pub mod Rows

@@ -2,6 +2,7 @@
 use Rattle.std.specs.Prelude.{◌≡◌, ◌<◌, ℕ, ◌+◌, ◌*◌, ◌%◌, ◌^◌, ℤ, List, [], ◌∷◌, length, Bool, true, nat_lt, nat_le, ◌&&◌, false}
 use Rattle.std.specs.List.{All}
 use Rattle.object_header.specs.Formats.{unit_bytes_of, unused_of, is_method}
+use Rattle.object_header.specs.Head.{is_refused_format}
 use Rattle.spur_graph.specs.declared.answer.Value.{Value}
 use Rattle.spur_graph.specs.declared.answer.Value.TheVariants.{Int}
 use Rattle.spur_graph.specs.Value.{IsValue, low_bits}
@@ -20,10 +21,6 @@ pub record Node : Type 0 where
 abbrev pub is_raw : ℕ → Bool
 is_raw f = nat_le 9 f && nat_lt f 24
 
--- 6, 7 and 8 are formats of no node
-abbrev pub is_reserved : ℕ → Bool
-is_reserved f = nat_lt 5 f && nat_lt f 9
-
 -- a unit fits the bytes that units of the format have
 abbrev pub IsUnit : ℕ → ℕ → Type 0
 IsUnit f u = u < 2 ^ (8 * unit_bytes_of f)
@@ -39,7 +36,7 @@ pub record HasLiterals (pointers : List Value) : Type 0 where
 pub record IsNode (n : Node) : Type 0 where
   pub class_index : n.class < 2 ^ 22
   pub hash_bits : n.hash < 2 ^ 22
-  pub known_format : (n.format < 32) × (is_reserved n.format ≡ false)
+  pub known_format : (n.format < 32) × (is_refused_format n.format ≡ false)
   pub no_pointers : is_raw n.format ≡ true → n.pointers ≡ []
   pub no_units : n.format < 9 → n.units ≡ []
   pub whole_words : (length n.units + unused_of n.format) * unit_bytes_of n.format % 8 ≡ 0

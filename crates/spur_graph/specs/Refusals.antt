@@ -1,15 +1,16 @@
 -- The conditions of refusals.
-use Rattle.std.specs.Prelude.{ℕ, List, [], ◌∷◌, length, Bool, if◌then◌else◌, ◌&&◌, nat_le, Option, Some, None}
+use Rattle.std.specs.Prelude.{ℕ, ◌*◌, ◌%◌, ◌^◌, ℤ, pos, negsuc, List, [], ◌∷◌, length, Bool, not, if◌then◌else◌, ◌==◌, ◌&&◌, ◌||◌, nat_le, nat_lt, Option, Some, None}
 use Rattle.std.specs.Option.{is_none}
 use Rattle.std.specs.List.{list_any}
 use Rattle.std.specs.FinMap.{len}
+use Rattle.object_header.specs.Formats.{unit_bytes_of, is_method}
 use Rattle.spur_graph.specs.declared.answer.Refusal.{Refusal}
 use Rattle.spur_graph.specs.declared.answer.Refusal.TheVariants as r
 use Rattle.spur_graph.specs.Value.{is_immediate}
 use Rattle.spur_graph.specs.Node.{Node, is_raw}
 use Rattle.spur_graph.specs.Graph.{Graph, held}
 use Rattle.spur_graph.specs.Bytes.{Text}
-use Rattle.spur_graph.specs.State.{value_at}
+use Rattle.spur_graph.specs.State.{value_at, node_of_handle}
 
 -- a refusal where its condition holds
 abbrev pub test : Bool → Refusal → Option Refusal
@@ -45,6 +46,39 @@ immediate g k names = test (list_any (λ h. is_immediate (value_at g k h)) names
 abbrev pub raw_read : Node → Option Refusal
 raw_read n = test (is_raw n.format) r.Raw
 
+-- the slot can't be written: the format has units and no pointer slots, or it is slot 0 of a method, which counts the literals
+abbrev pub raw_write : Node → ℕ → Option Refusal
+raw_write n i = test (is_raw n.format || (is_method n.format && (i == 0))) r.Raw
+
+-- the format, below 9, has no units
+abbrev pub raw_unit : Node → Option Refusal
+raw_unit n = test (nat_lt n.format 9) r.Raw
+
 -- past the last slot or unit
 abbrev pub index_in : {X : Type 0} → List X → ℕ → Option Refusal
 index_in xs i = test (nat_le (length xs) i) r.Index
+
+-- an object that the command changes is readonly
+abbrev pub readonly : Graph → ℕ → List Text → Option Refusal
+readonly g k names = test (list_any (λ h. (node_of_handle g k h).readonly) names) r.ReadOnly
+
+-- past the greatest value of a unit
+abbrev pub unit_range : Node → ℕ → Option Refusal
+unit_range n u = test (nat_le (2 ^ (8 * unit_bytes_of n.format)) u) r.Range
+
+-- below -2^60 or past 2^60 - 1
+abbrev pub is_great : ℤ → Bool
+is_great (pos n) = nat_le (2 ^ 60) n
+is_great (negsuc n) = nat_le (2 ^ 60) n
+
+-- no SmallInteger has the number
+abbrev pub int_range : ℤ → Option Refusal
+int_range n = test (is_great n) r.Range
+
+-- no Character has the code
+abbrev pub char_range : ℕ → Option Refusal
+char_range n = test (nat_le (2 ^ 30) n) r.Range
+
+-- the word is not that of a SmallFloat
+abbrev pub float_range : ℕ → Option Refusal
+float_range word = test (not (word % 8 == 4)) r.Range

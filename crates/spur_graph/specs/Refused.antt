@@ -4,9 +4,9 @@ use Rattle.spur_graph.specs.declared.answer.Refusal.{Refusal}
 use Rattle.spur_graph.specs.declared.answer.Refusal.TheVariants as r
 use Rattle.spur_graph.specs.Graph.{Graph}
 use Rattle.spur_graph.specs.Bytes.{Text}
-use Rattle.spur_graph.specs.Form.{Form, Special, Fetch, Kind}
+use Rattle.spur_graph.specs.Form.{Form, Special, Nil, Yes, No, Int, Char, Float, Copy, Drop, Kind, Size, Fetch, Store, Unit, SetUnit, Same}
 use Rattle.spur_graph.specs.State.{State, node_of_handle}
-use Rattle.spur_graph.specs.Refusals.{Row, first, unknown, handles, immediate, raw_read, index_in}
+use Rattle.spur_graph.specs.Refusals.{Row, first, unknown, handles, immediate, raw_read, raw_write, raw_unit, index_in, readonly, unit_range, int_range, char_range, float_range}
 
 -- of a command that binds `h` and reads these handles
 abbrev pub binds : Graph → ℕ → Text → List Text → Row → Row
@@ -15,8 +15,26 @@ binds g k h names row = unknown g k names ∷ handles g k h ∷ row
 -- each command's refusals in their order; a command that is not served is refused as such
 abbrev pub row : State → ℕ → Form → Row
 row s k (Special h) = binds s.graph k h [] []
+row s k (Nil h) = binds s.graph k h [] []
+row s k (Yes h) = binds s.graph k h [] []
+row s k (No h) = binds s.graph k h [] []
+row s k (Int h n) = binds s.graph k h [] (int_range n ∷ [])
+row s k (Char h n) = binds s.graph k h [] (char_range n ∷ [])
+row s k (Float h word) = binds s.graph k h [] (float_range word ∷ [])
+row s k (Copy h o) = binds s.graph k h (o ∷ []) []
+row s k (Drop h) = unknown s.graph k (h ∷ []) ∷ []
 row s k (Fetch h o i) = binds s.graph k h (o ∷ []) (immediate s.graph k (o ∷ []) ∷ raw_read (node_of_handle s.graph k o) ∷ index_in (node_of_handle s.graph k o).pointers i ∷ [])
 row s k (Kind o) = unknown s.graph k (o ∷ []) ∷ []
+row s k (Size o) = unknown s.graph k (o ∷ []) ∷ immediate s.graph k (o ∷ []) ∷ []
+row s k (Store o i v) =
+    unknown s.graph k (o ∷ v ∷ []) ∷ immediate s.graph k (o ∷ []) ∷ raw_write (node_of_handle s.graph k o) i
+    ∷ index_in (node_of_handle s.graph k o).pointers i ∷ readonly s.graph k (o ∷ []) ∷ []
+row s k (Unit o i) =
+    unknown s.graph k (o ∷ []) ∷ immediate s.graph k (o ∷ []) ∷ raw_unit (node_of_handle s.graph k o) ∷ index_in (node_of_handle s.graph k o).units i ∷ []
+row s k (SetUnit o i n) =
+    unknown s.graph k (o ∷ []) ∷ immediate s.graph k (o ∷ []) ∷ raw_unit (node_of_handle s.graph k o) ∷ index_in (node_of_handle s.graph k o).units i
+    ∷ unit_range (node_of_handle s.graph k o) n ∷ readonly s.graph k (o ∷ []) ∷ []
+row s k (Same a b) = unknown s.graph k (a ∷ b ∷ []) ∷ []
 row s k form = Some r.Unsupported ∷ []
 
 -- the refusal of a command

@@ -5,7 +5,7 @@ use Rattle.spur_graph.specs.declared.answer.Value.{Value}
 use Rattle.spur_graph.specs.declared.answer.Value.TheVariants.{Ref}
 use Rattle.spur_graph.specs.Value.{named_by}
 use Rattle.spur_graph.specs.Node.{Node}
-use Rattle.spur_graph.specs.Graph.{Graph, node, held, bind}
+use Rattle.spur_graph.specs.Graph.{Graph, node, with_node, held, bind, unbind}
 use Rattle.spur_graph.specs.Bytes.{Text}
 use Rattle.spur_graph.specs.Room.{Room}
 
@@ -39,3 +39,11 @@ with_graph s g = record s { graph = g }
 -- the state with a handle bound
 abbrev pub bound : State → ℕ → Text → Value → State
 bound s k h v = with_graph s (bind s.graph k h v)
+
+-- the state with a handle held no longer
+abbrev pub dropped : State → ℕ → Text → State
+dropped s k h = with_graph s (unbind s.graph k h)
+
+-- the state with the node of a name changed
+abbrev pub with_changed : State → ℕ → (Node → Node) → State
+with_changed s a f = with_graph s (with_node s.graph a (f (node s.graph a)))

@@ -11,7 +11,7 @@ use Rattle.spur_graph.specs.Names.{Iso}
 use Rattle.spur_graph.specs.Room.{Room}
 use Rattle.spur_graph.specs.Form.{Form}
 use Rattle.spur_graph.specs.Words.{words_of}
-use Rattle.spur_graph.specs.Rows.{IsCommand}
+use Rattle.spur_graph.specs.Rows.{IsLine}
 use Rattle.spur_graph.specs.State.{State}
 use Rattle.spur_graph.specs.Does.{Does}
 use Rattle.spur_graph.specs.Refused.{refused}
@@ -20,13 +20,9 @@ use Rattle.spur_graph.specs.Refused.{refused}
 abbrev pub longest_line : ℕ
 longest_line = 1024
 
--- the line is this command of mutator 0; one with the mark of a mutator is no line here
+-- the line is this command of this mutator
 abbrev pub Reads : Text → ℕ → Form → Type 0
-Reads text k form = (k ≡ 0) × IsCommand (words_of text) form
-
--- the refusal that is answered: one word stands for all
-abbrev pub told : Refusal → Refusal
-told refusal = r.Unsupported
+Reads text k form = IsLine (words_of text) k form
 
 -- this refuses the command
 abbrev pub Refuses : State → ℕ → Form → Refusal → Type 0
@@ -58,9 +54,9 @@ pub record Renamed (s t : State) : Type 0 where
 
 -- the answer to a line and the state after it: too long, no line of the grammar, refused, or done
 pub data Answers (old : State) (text : Text) : Answer → State → Type 0 where
-  long : longest_line < length text → Answers old text (answers.Refused (told r.Long)) old
-  syntax : length text ≤ longest_line → ((k : ℕ) (form : Form) → Reads text k form → ⊥) → Answers old text (answers.Refused (told r.Syntax)) old
-  refusal : {new : State} (k : ℕ) (form : Form) (why : Refusal) → length text ≤ longest_line → Reads text k form → Refuses old k form why → Leaves old k form new → Answers old text (answers.Refused (told why)) new
+  long : longest_line < length text → Answers old text (answers.Refused r.Long) old
+  syntax : length text ≤ longest_line → ((k : ℕ) (form : Form) → Reads text k form → ⊥) → Answers old text (answers.Refused r.Syntax) old
+  refusal : {new : State} (k : ℕ) (form : Form) (why : Refusal) → length text ≤ longest_line → Reads text k form → Refuses old k form why → Leaves old k form new → Answers old text (answers.Refused why) new
   done : {new : State} {answer : Answer} (k : ℕ) (form : Form) → length text ≤ longest_line → Reads text k form → Passes old k form → Does old k form answer new → Answers old text answer new
 
 -- a step answers a line, and names are free

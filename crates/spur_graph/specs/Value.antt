@@ -1,5 +1,5 @@
 -- Values, and the tagged words that stand for them.
-use Rattle.std.specs.Prelude.{◌<◌, ◌≤ℤ◌, ◌<ℤ◌, ℕ, ◌-◌, ◌/◌, ◌%◌, ◌^◌, ℤ, pos, neg_ℤ, negsuc, ◌≡◌, Bool, true, false, if◌then◌else◌, ◌==◌, nat_lt, Option, Some, None}
+use Rattle.std.specs.Prelude.{◌<◌, ◌≤ℤ◌, ◌<ℤ◌, ℕ, ◌-◌, ◌/◌, ◌%◌, ◌^◌, ℤ, pos, neg_ℤ, negsuc, ◌≡◌, Bool, true, false, if◌then◌else◌, ◌==◌, ◌&&◌, ◌||◌, nat_lt, Option, Some, None}
 use Rattle.spur_graph.specs.declared.answer.Value.{Value}
 use Rattle.spur_graph.specs.declared.answer.Value.TheVariants.{Int, Char, Float, Ref}
 
@@ -23,6 +23,36 @@ is_immediate (Int n) = true
 is_immediate (Char c) = true
 is_immediate (Float w) = true
 is_immediate (Ref a) = false
+
+-- two whole numbers are equal
+abbrev pub same_int : ℤ → ℤ → Bool
+same_int (pos m) (pos n) = m == n
+same_int (pos m) (negsuc n) = false
+same_int (negsuc m) (pos n) = false
+same_int (negsuc m) (negsuc n) = m == n
+
+-- both are one value: the same number, code or word, or the same name
+abbrev pub same_value : Value → Value → Bool
+same_value (Int m) (Int n) = same_int m n
+same_value (Int m) (Char n) = false
+same_value (Int m) (Float n) = false
+same_value (Int m) (Ref n) = false
+same_value (Char m) (Int n) = false
+same_value (Char m) (Char n) = m == n
+same_value (Char m) (Float n) = false
+same_value (Char m) (Ref n) = false
+same_value (Float m) (Int n) = false
+same_value (Float m) (Char n) = false
+same_value (Float m) (Float n) = m == n
+same_value (Float m) (Ref n) = false
+same_value (Ref m) (Int n) = false
+same_value (Ref m) (Char n) = false
+same_value (Ref m) (Float n) = false
+same_value (Ref m) (Ref n) = m == n
+
+-- the word is that of an immediate: a SmallInteger, a Character whose code is below 2^30, or a SmallFloat
+abbrev pub is_immediate_word : ℕ → Bool
+is_immediate_word word = (word % 8 == 1) || ((word % 8 == 2) && nat_lt (word / 8) (2 ^ 30)) || (word % 8 == 4)
 
 -- the upper 61 bits of a word, signed
 abbrev pub int_of : ℕ → ℤ

@@ -9,7 +9,9 @@
 mod answer;
 mod command;
 mod laws;
+mod limits;
 
 pub use answer::{Answer, Full, Refusal, SegmentCause, Shown, Stat, Value};
 pub use command::{Command, FileName, HandleName, Line};
 pub use laws::{handle_bound, keeps_names};
+pub use limits::Limits;

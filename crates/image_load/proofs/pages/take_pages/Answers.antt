@@ -10,18 +10,15 @@ use Rattle.image_load.proofs.pages.take_pages.Goals as goal
 pub overflow_add-firsts : goal.overflow_add-firsts
 overflow_add-firsts c = let end = roots_end c.args.words.now c.args.firsts.now (has_start c.args.starts.now) c.requires.walked c.requires.roots in omega (arith, end, c.requires.few)
 
-pub split_at-requires : goal.split_at-requires
-split_at-requires c = let end = roots_end c.args.words.now c.args.firsts.now (has_start c.args.starts.now) c.requires.walked c.requires.roots in omega (arith, end)
-
-pub split_at-requires-2 : goal.split_at-requires-2
-split_at-requires-2 c = let end = roots_end c.args.words.now c.args.firsts.now (has_start c.args.starts.now) c.requires.walked c.requires.roots in omega (arith, end, c.split_at.ensures.back_len)
+pub window-places-requires : goal.window-places-requires
+window-places-requires c = let end = roots_end c.args.words.now c.args.firsts.now (has_start c.args.starts.now) c.requires.walked c.requires.roots in omega (arith, end)
 
 pub places-preserved-then-word-nil : goal.places-preserved-then-word-nil
 places-preserved-then-word-nil c =
     let i = c.places.word-index in
     let words = c.args.words.now in
     let before = has_start c.args.starts.now in
-    let places = places_are words c.args.firsts.now c.split_at-2.result.0.now c.split_at.result.1.now before c.requires.walked c.requires.roots c.split_at.ensures.back c.split_at-2.ensures.front in
+    let places = c.window-places.ensures ∙ places_are words c.args.firsts.now before c.requires.walked c.requires.roots in
     let count = places_count words c.args.firsts.now before c.requires.walked c.requires.roots in
     let below : i < length (page_slots words) = omega (arith, ap length places, c.places-test.true) in
     let nil : get_or (page_slots words) i 0 ≡ address c.args.base (first_start words 0) = sym (ap (λ ws. get_or ws i 0) places) ∙ (c.if-word-nil.true ∙ (c.address_of-nil.ensures ∙ ap (address c.args.base) (sym (first_is words c.args.firsts.now before 0 c.requires.walked (omega arith))))) in
@@ -36,11 +33,11 @@ returns-in_default-clause-no c not all =
     let i = c.places.word-index in
     let words = c.args.words.now in
     let before = has_start c.args.starts.now in
-    let places = places_are words c.args.firsts.now c.split_at-2.result.0.now c.split_at.result.1.now before c.requires.walked c.requires.roots c.split_at.ensures.back c.split_at-2.ensures.front in
+    let places = c.window-places.ensures ∙ places_are words c.args.firsts.now before c.requires.walked c.requires.roots in
     let count = places_count words c.args.firsts.now before c.requires.walked c.requires.roots in
     let below : i < length (page_slots words) = omega (arith, ap length places, c.places-test.true) in
     let nil_is = c.address_of-nil.ensures ∙ ap (address c.args.base) (sym (first_is words c.args.firsts.now before 0 c.requires.walked (omega arith))) in
-    no_page_slot c.args.base i (covered c.places.starts) (get_or c.split_at-2.result.0.now i 0) words c.args.firsts.now before (has_start c.places.starts) below (ap (λ ws. get_or ws i 0) places)
+    no_page_slot c.args.base i (covered c.places.starts) (get_or c.window-places.result.now i 0) words c.args.firsts.now before (has_start c.places.starts) below (ap (λ ws. get_or ws i 0) places)
     (c.places.invariant.covers ∙ c.requires.covers) c.requires.walked c.requires.roots.five c.places.invariant.taken (λ same. c.if-word-nil.false (same ∙ sym nil_is)) c.in_default.ensures.none (all i (omega (arith, below, count)))
 
 pub places-preserved : goal.places-preserved
@@ -49,7 +46,7 @@ places-preserved c =
     let words = c.args.words.now in
     let page = c.in-Some.page in
     let before = has_start c.args.starts.now in
-    let places = places_are words c.args.firsts.now c.split_at-2.result.0.now c.split_at.result.1.now before c.requires.walked c.requires.roots c.split_at.ensures.back c.split_at-2.ensures.front in
+    let places = c.window-places.ensures ∙ places_are words c.args.firsts.now before c.requires.walked c.requires.roots in
     let count = places_count words c.args.firsts.now before c.requires.walked c.requires.roots in
     let below : i < length (page_slots words) = omega (arith, ap length places, c.places-test.true) in
     let found = c.in-Some.ensures.found in
@@ -62,11 +59,19 @@ places-preserved c =
           (not_nil words c.args.firsts.now before page c.requires.walked c.requires.roots.five found.3.apart 0 (omega arith)) c.places.invariant.taken c.unset.ensures.removed c.unset.ensures.others;
     }
 
+pub returns-clause-yes : goal.returns-clause-yes
+returns-clause-yes c is i below =
+    let words = c.args.words.now in
+    let before = has_start c.args.starts.now in
+    let places = c.window-places.ensures ∙ places_are words c.args.firsts.now before c.requires.walked c.requires.roots in
+    let count = places_count words c.args.firsts.now before c.requires.walked c.requires.roots in
+    c.places.invariant.good i (omega (arith, below, count, ap length places, c.places-test.false, c.places.auto.word-index-end))
+
 pub returns-clause-taken : goal.returns-clause-taken
 returns-clause-taken c is s =
     let words = c.args.words.now in
     let before = has_start c.args.starts.now in
-    let places = places_are words c.args.firsts.now c.split_at-2.result.0.now c.split_at.result.1.now before c.requires.walked c.requires.roots c.split_at.ensures.back c.split_at-2.ensures.front in
+    let places = c.window-places.ensures ∙ places_are words c.args.firsts.now before c.requires.walked c.requires.roots in
     let count = places_count words c.args.firsts.now before c.requires.walked c.requires.roots in
     let all : c.places.word-index ≡ 4096 = omega (arith, count, ap length places, c.places-test.false, c.places.auto.word-index-end) in
     c.places.invariant.taken s ∙ ap (λ n. before s && not (is_page_below n c.args.base words s)) all

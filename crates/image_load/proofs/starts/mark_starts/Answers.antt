@@ -1,8 +1,5 @@
-use Rattle.std.proofs.Common.{arith, sym, ◌∙◌, ap, subst, ℕ, List, length, length-drop}
+use Rattle.std.proofs.Common.{arith, ◌∙◌}
 use Rattle.heap_walk.specs.Starts.{has_start}
-use Rattle.object_header.specs.Head.{head_of}
-use Rattle.spur_graph.specs.Objects.{object_head}
-use Rattle.image_load.specs.Found.{IsFront}
 use Rattle.image_load.proofs.Walks.{walk_begins, walk_fails, walk_goes_on, walk_ends}
 use Rattle.image_load.proofs.starts.mark_starts.Goals as goal
 
@@ -14,22 +11,15 @@ objects-init c = record {
 }
 
 pub returns-in_default-clause-not_cut : goal.returns-in_default-clause-not_cut
-returns-in_default-clause-not_cut c not = walk_fails c.args.words.now _ c.objects.at _ c.objects.invariant.so_far c.objects-test.true
-    (ap (λ ws. object_head (head_of ws)) (sym c.split_at.ensures.back) ∙ (sym c.object_at.ensures.value ∙ c.in_default.is))
+returns-in_default-clause-not_cut c not = walk_fails c.args.words.now _ c.objects.at _ c.objects.invariant.so_far (omega arith) c.in_default.ensures.none
 
 pub objects-preserved : goal.objects-preserved
-objects-preserved c =
-    let rest = c.split_at.ensures.back in
-    let Front : List ℕ → Type 0 = λ ws. IsFront ws c.in-Some.head in
-    let sized = c.in-Some.ensures.room in
-    let cut = length-drop c.objects.at c.args.words.now in
-    record {
-      within = omega (arith, sized.1, ap length rest, cut);
-      covers = c.set.ensures.covers ∙ c.objects.invariant.covers;
-      so_far = walk_goes_on c.args.words.now c.objects.firsts.items c.keep_first.new.firsts.items c.objects.at c.in-Some.head (has_start c.objects.starts) (has_start c.set.new.self)
-          c.objects.invariant.so_far c.objects-test.true (ap (λ ws. object_head (head_of ws)) (sym rest) ∙ (sym c.object_at.ensures.value ∙ c.in-Some.is)) (subst Front rest c.in-Some.ensures.front)
-          c.set.ensures.added c.set.ensures.others c.keep_first.ensures.kept c.keep_first.ensures.full;
-    }
+objects-preserved c = record {
+  within = c.in-Some.ensures.place.2;
+  covers = c.set.ensures.covers ∙ c.objects.invariant.covers;
+  so_far = walk_goes_on c.args.words.now c.objects.firsts.items c.keep_first.new.firsts.items c.objects.at c.in-Some.chunk (has_start c.objects.starts) (has_start c.set.new.self)
+      c.objects.invariant.so_far (omega arith) c.in-Some.ensures.some c.set.ensures.added c.set.ensures.others c.keep_first.ensures.kept c.keep_first.ensures.full;
+}
 
 pub returns-clause-walked : goal.returns-clause-walked
-returns-clause-walked c is = walk_ends c.args.words.now c.objects.firsts.items c.objects.at (has_start c.objects.starts) c.objects.invariant.so_far c.objects-test.false
+returns-clause-walked c is = walk_ends c.args.words.now c.objects.firsts.items c.objects.at (has_start c.objects.starts) c.objects.invariant.so_far (omega arith)

@@ -1,5 +1,6 @@
 use Rattle.std.proofs.Common.{◌≡◌, ◌-◌, ◌≤◌}
 use Rattle.replay.specs.Sessions.{IsSession, state_of}
+use Rattle.replay.specs.Runs.{most_script_bytes}
 use Rattle.replay.proofs.Scripts.{ReadTo}
 use Rattle.replay.proofs.runs.answer_script.Given as goal
 
@@ -11,9 +12,9 @@ invariant-pieces g l = record {
   reads : g.F.Files.read_count l.files ≡ g.F.Files.read_count l.fn.files;
   writes : g.F.Files.write_count l.files ≡ g.F.Files.write_count l.fn.files;
   faults : g.K.Sink.fault_count l.out ≡ g.K.Sink.fault_count l.fn.out;
-  low : l.at ≤ 65536;
+  low : l.at ≤ most_script_bytes;
   read : ReadTo (g.F.Files.told l.fn.files) (g.K.Sink.so_far l.fn.out) (state_of l.fn.session) (state_of l.session) l.script l.at l.open_line (g.K.Sink.so_far l.out);
 }
 
 abbrev pub decreases-pieces : goal.decreases-pieces
-decreases-pieces g l = 65536 - l.at
+decreases-pieces g l = most_script_bytes - l.at

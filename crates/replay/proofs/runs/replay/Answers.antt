@@ -12,10 +12,10 @@ returns-in_default-clause-outcome g c = λ words is. no_session (g.F.Files.told 
 
 pub returns-in-Ok-answer_script-clause-outcome : goal.returns-in-Ok-answer_script-clause-outcome
 returns-in-Ok-answer_script-clause-outcome g c = λ words is.
-    replayed (g.F.Files.told c.args.files.now) (g.F.Files.told c.load.new.files) (g.K.Sink.so_far c.args.out.now) (g.K.Sink.so_far c.answer_script.new.out) words c.args.image.now c.args.script.now c.in-Ok.image c.in-Ok-new.session
+    replayed (g.F.Files.told c.args.files.now) (g.F.Files.told c.load.new.files) (g.K.Sink.so_far c.args.out.now) (g.K.Sink.so_far c.answer_script.new.out) words c.args.image.now c.args.script.now c.in-Ok.heap c.in-Ok-new.session
     (Ok c.in-Ok-answer_script.field-0) _ c.in-Ok.ensures.same is c.in-Ok.ensures.image c.in-Ok-new.ensures.graph c.in-Ok-answer_script.ensures.outcome refl
 
 pub returns-clause-outcome : goal.returns-clause-outcome
 returns-clause-outcome g c = λ words is.
-    replayed (g.F.Files.told c.args.files.now) (g.F.Files.told c.load.new.files) (g.K.Sink.so_far c.args.out.now) (g.K.Sink.so_far c.answer_script.new.out) words c.args.image.now c.args.script.now c.in-Ok.image c.in-Ok-new.session
+    replayed (g.F.Files.told c.args.files.now) (g.F.Files.told c.load.new.files) (g.K.Sink.so_far c.args.out.now) (g.K.Sink.so_far c.answer_script.new.out) words c.args.image.now c.args.script.now c.in-Ok.heap c.in-Ok-new.session
     (Err c.in-Err-answer_script.stop) c.into.result c.in-Ok.ensures.same is c.in-Ok.ensures.image c.in-Ok-new.ensures.graph c.in-Err-answer_script.ensures.outcome c.into.ensures

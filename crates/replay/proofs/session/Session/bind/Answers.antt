@@ -1,26 +1,33 @@
-use Rattle.std.proofs.Common.{◌∙◌, sym, ap, inl, inr, subst, refl, arith, ℕ}
-use Rattle.std.specs.FinMap.{get}
-use Rattle.spur_graph.specs.FirstForm.{IsGood}
-use Rattle.replay.proofs.Graphs.{handle_bound}
-use Rattle.replay.proofs.Commands.{no_room_left}
+use Rattle.std.proofs.Common.{◌≡◌, ◌∙◌, sym, ap, inl, inr, subst, refl, arith, ℕ}
+use Rattle.std.specs.Prelude.{Result, Ok, Err, OnOk, IsErr}
+use Rattle.std.specs.FinMap.{get, insert}
+use Rattle.spur_heap.specs.Heaps.{IsGoodIn}
+use Rattle.replay.proofs.Graphs.{handle_bound, no_room_left}
 use Rattle.replay.proofs.session.Session.bind.Goals as goal
 
-pub returns-in-Ok-clause-bound : goal.returns-in-Ok-clause-bound
-returns-in-Ok-clause-bound c = handle_bound c.args.self.now c.bind.new.self c.args.mutator c.args.name.now.bytes c.args.word c.in-Ok.ensures.bound
+-- what was done where it did not fail
+done : {X E : Type 0} (result : Result X E) (P : Type 0) → OnOk result P → (IsErr result → ⊥) → P
+done (Ok x) P did never = did
+done (Err e) P did never = absurd (never refl)
 
-pub returns-in-Ok-clause-sound : goal.returns-in-Ok-clause-sound
-returns-in-Ok-clause-sound c =
+inserted : (c : goal.After-bind-bound) → c.bind-bound.new.self ≡ insert c.args.self.now.handles (c.args.mutator, c.args.name.now.bytes) c.args.word
+inserted c = done c.bind-bound.result _ c.bind-bound.ensures.bound (λ failed.
+    let full = c.bind-bound.ensures.full.0 failed in
+    let refused = no_room_left c.args.self.now c.args.mutator c.args.name.now.bytes full.0 (omega (arith, full.1)) in
+    let room = c.requires.room in
+    cc)
+
+pub returns-clause-bound : goal.returns-clause-bound
+returns-clause-bound c = handle_bound c.args.self.now c.bind-bound.new.self c.args.mutator c.args.name.now.bytes c.args.word (inserted c)
+
+pub returns-clause-sound : goal.returns-clause-sound
+returns-clause-sound c =
     let s = c.args.self.now in
-    let Good : ℕ → Type 0 = λ word. IsGood s.image.base s.image.words.items word in
+    let Good : ℕ → Type 0 = λ word. IsGoodIn s.heap word in
     record {
       sound = c.requires.sound.sound;
-      held = λ h word is. elim (c.held_or_bound.ensures s.handles (c.args.mutator, c.args.name.now.bytes) h c.args.word word (sym (ap (λ m. get m h) c.in-Ok.ensures.bound) ∙ is)) [
+      held = λ h word is. elim (c.held_or_bound.ensures s.handles (c.args.mutator, c.args.name.now.bytes) h c.args.word word (sym (ap (λ m. get m h) (inserted c)) ∙ is)) [
         | inl same ↦ subst Good (sym same) c.requires.good
         | inr before ↦ c.requires.sound.held h word before
       ];
     }
-
-pub returns-in-Err-clause-full : goal.returns-in-Err-clause-full
-returns-in-Err-clause-full c =
-    let full = c.in-Err.ensures.full.0 refl in
-    no_room_left c.args.self.now c.args.mutator c.args.name.now.bytes full.0 (omega (arith, full.1))

@@ -8,7 +8,7 @@ none_held : (o : Option ℕ) (word : ℕ) → o ≡ None → o ≡ Some word →
 none_held o word none some = cc
 
 pub returns-clause-graph : goal.returns-clause-graph
-returns-clause-graph c = λ bytes of. first_graph c.args.image c.in_ok-handles.handles bytes c.in_ok-handles.ensures of
+returns-clause-graph c = λ bytes of. first_graph c.args.heap c.in_ok-handles.handles bytes c.in_ok-handles.ensures of
 
 pub returns-clause-sound : goal.returns-clause-sound
 returns-clause-sound c = record {

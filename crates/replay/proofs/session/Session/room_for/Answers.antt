@@ -1,19 +1,19 @@
 use Rattle.std.proofs.Common.{◌≡◌, ◌∙◌, sym, arith, Option, ℕ, None, Some, false, refl}
 use Rattle.std.specs.Option.{is_some}
-use Rattle.replay.proofs.Commands.{no_room_left, room_left, held_before}
-use Rattle.replay.proofs.session.Session.room_for.Goals as goal
+use Rattle.replay.proofs.Graphs.{no_room_left, room_left, room_held}
 use Rattle.replay.proofs.session.Session.room_for.Goals.{else-is_none-via-then-is_none+else-len-ge-MOST_HANDLES, else-is_none-via-else-is_none}
+use Rattle.replay.proofs.session.Session.room_for.Goals as goal
 
 none_of : (o : Option ℕ) → is_some o ≡ false → o ≡ None
 none_of None is = refl
 none_of (Some word) is = cc
 
-pub returns-then-len-ge-MOST_HANDLES-clause-full : goal.returns-then-len-ge-MOST_HANDLES-clause-full
-returns-then-len-ge-MOST_HANDLES-clause-full c =
+pub returns-then-len-ge-MOST_HANDLES : goal.returns-then-len-ge-MOST_HANDLES
+returns-then-len-ge-MOST_HANDLES c =
     no_room_left c.args.self.now c.args.mutator c.args.name.now.bytes (sym c.get.ensures ∙ none_of c.get.result c.if-is_none.ensures) (omega (arith, c.len.ensures.len, c.if-len-ge-MOST_HANDLES.true))
 
-pub returns-clause-room : goal.returns-clause-room
-returns-clause-room c = elim c.else-is_none.branch [
+pub returns : goal.returns
+returns c = elim c.else-is_none.branch [
   | else-is_none-via-then-is_none+else-len-ge-MOST_HANDLES w ↦ room_left c.args.self.now c.args.mutator c.args.name.now.bytes (omega (arith, w.len.ensures.len, w.if-len-ge-MOST_HANDLES.false))
-  | else-is_none-via-else-is_none w ↦ held_before c.args.self.now c.args.mutator c.args.name.now.bytes c.get.result (sym c.get.ensures) w.if-is_none.ensures
+  | else-is_none-via-else-is_none w ↦ room_held c.args.self.now c.args.mutator c.args.name.now.bytes c.get.result (sym c.get.ensures) w.if-is_none.ensures
 ]

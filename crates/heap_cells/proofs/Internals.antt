@@ -1,0 +1,135 @@
+-- The internal objects are the same.
+use Rattle.std.proofs.Common.{◌≡◌, ◌≢◌, ◌⊎◌, ℕ, true, false, cond, not, ◌&&◌, ◌||◌, ◌+◌, ◌*◌, ◌/◌, ◌%◌, ◌<◌, ◌≤◌, eqb, ltb, length, get_or, refl, sym, ap, ◌∙◌, arith, inl, inr, Some, None, Option}
+use Rattle.std.proofs.lemmas.Bool.{false≢true, cases_eq, cases_Bool, eq-eqb, ne_eqb, lt-ltb, le-ltb, and_parts, and_cases, and_right, not-false, not-true, or_from, cond-true, cond-false}
+use Rattle.std.specs.Option.{unwrap_or}
+use Rattle.spur_graph.specs.Cells.{Store, is_there, first, any_below}
+use Rattle.spur_graph.specs.Ordinary.{roots_slots, page_places, page_entries, is_at, passes, body_at, root_slot, tells, is_nil_slot, is_first, is_page_body, is_page, is_internal, is_ordinary}
+use Rattle.spur_graph.specs.Heaps.{heap_to}
+use Rattle.heap_cells.specs.Settled.{settled_root, word_of}
+use Rattle.heap_cells.proofs.Fronts.{from-in}
+use Rattle.heap_cells.proofs.Below.{any_below-same, any_below-none, any_below-has, at-named, passed, passes-same, and-same}
+use Rattle.heap_cells.proofs.Both.{Both, there-same, words-roots, words-settled, format-same, length-same, first-five, apart}
+
+pub heap-named : (s : ℕ) → heap_to (word_of s) ≡ Some s
+heap-named s =
+    let a : (8 * s) % 8 ≡ 0 = omega arith in
+    let q : 8 * s / 8 ≡ s = omega arith in
+    ap (λ b. cond b (Some (8 * s / 8)) None) (eq-eqb (8 * s % 8) 0 a) ∙ ap (λ t. Some t) q
+
+-- what a page is
+pub record IsPageAt (h : Store) (i s : ℕ) : Type 0 where
+  pub named : h.to (root_slot h i) ≡ Some s
+  pub there : is_there (h.cell s) ≡ true
+  pub body : is_page_body (body_at h s) ≡ true
+  pub later : is_first h s ≡ false
+
+pub a_page : (h : Store) (i : ℕ) → is_page h i ≡ true → (s : ℕ) × IsPageAt h i s
+unfolding is_page
+a_page h i e =
+    let p = passed (λ s. is_there (h.cell s) && is_page_body (body_at h s) && not (is_first h s) && not (any_below (λ j. tells h j s) i)) (h.to (root_slot h i)) e in
+    let s : ℕ = p.one in
+    let parts = and_parts (is_there (h.cell s) && is_page_body (body_at h s) && not (is_first h s)) (not (any_below (λ j. tells h j s) i)) p.holds in
+    let more = and_parts (is_there (h.cell s) && is_page_body (body_at h s)) (not (is_first h s)) parts.0 in
+    let front = and_parts (is_there (h.cell s)) (is_page_body (body_at h s)) more.0 in
+    (s, record { named = p.is; there = front.0; body = front.1; later = not-true (is_first h s) more.1 })
+
+-- what is none of the first five is not this one of them
+pub not_first : (h : Store) (s j : ℕ) → j < 5 → is_first h s ≡ false → s ≢ first h j
+not_first h s j l off e = false≢true (sym off ∙ any_below-has (λ i. eqb (first h i) s) 5 j l (eq-eqb (first h j) s (sym e)))
+
+module _ {old new : Store} (k : Both old new) where
+  pub to-heap : (w : ℕ) → new.to w ≡ heap_to w
+  to-heap w = ap (λ (f : ℕ → Option ℕ). f w) k.settled.to
+
+  root-at : (i : ℕ) → i < roots_slots → root_slot new i ≡ settled_root old i (root_slot old i)
+  root-at i l =
+      let far : i < length (body_at old (first old 4)).words = omega (arith, l, k.loadable.roots.1) in
+      ap (λ s. get_or (body_at new s).words i 0) (first-five k 4 (omega arith))
+      ∙ ap (λ ws. get_or ws i 0) (words-settled k (first old 4) (k.loadable.objects 4 (omega arith)) ∙ words-roots old (first old 4) (body_at old (first old 4)) refl)
+      ∙ from-in (settled_root old) 0 i (body_at old (first old 4)).words far
+      ∙ ap (λ j. settled_root old j (root_slot old i)) (let e : 0 + i ≡ i = omega arith in e)
+
+  root-settled : (i : ℕ) → i < page_places → root_slot new i ≡ word_of (unwrap_or (old.to (root_slot old i)) (first old 0))
+  root-settled i l = root-at i (omega arith) ∙ cond-true (ltb i page_places) _ _ (lt-ltb i page_places l)
+
+  pub root-top : (i : ℕ) → page_places ≤ i → i < roots_slots → root_slot new i ≡ 8 * first new 0
+  root-top i m l = root-at i l ∙ cond-false (ltb i page_places) _ _ (le-ltb i page_places m) ∙ ap (λ s. 8 * s) (sym (first-five k 0 (omega arith)))
+
+  -- a place names nil or a page
+  pub place_cases : (i : ℕ) → i < page_places → (is_nil_slot old i ≡ true) ⊎ (is_page old i ≡ true)
+  place_cases i l = elim (and_cases (not (is_nil_slot old i)) (not (is_page old i)) (k.loadable.pages i l)) [
+    | inl e ↦ inl (not-false _ e)
+    | inr e ↦ inr (not-false _ e)
+  ]
+
+  place_named : (i : ℕ) → i < page_places → (s : ℕ) × (old.to (root_slot old i) ≡ Some s)
+  place_named i l = elim (place_cases i l) [
+    | inl e ↦ (first old 0, at-named (first old 0) (old.to (root_slot old i)) e)
+    | inr e ↦ ((a_page old i e).0, (a_page old i e).1.named)
+  ]
+
+  pub root-named : (i : ℕ) → i < page_places → new.to (root_slot new i) ≡ old.to (root_slot old i)
+  root-named i l =
+      let p = place_named i l in
+      to-heap (root_slot new i) ∙ ap heap_to (root-settled i l) ∙ ap (λ o. heap_to (word_of (unwrap_or o (first old 0)))) p.1 ∙ heap-named p.0 ∙ sym p.1
+
+  pub tells-same : (i s : ℕ) → i < page_places → tells new i s ≡ tells old i s
+  tells-same i s l = ap (is_at s) (root-named i l)
+
+  pub nil_slot-same : (i : ℕ) → i < page_places → is_nil_slot new i ≡ is_nil_slot old i
+  nil_slot-same i l = ap (λ s. tells new i s) (first-five k 0 (omega arith)) ∙ tells-same i (first old 0) l
+
+  is_first-same : (s : ℕ) → is_first new s ≡ is_first old s
+  is_first-same s = any_below-same (λ j. eqb (first new j) s) (λ j. eqb (first old j) s) 5 (λ j l. ap (λ t. eqb t s) (first-five k j l))
+
+  page_body-same : (s : ℕ) → is_there (old.cell s) ≡ true → is_page_body (body_at new s) ≡ is_page_body (body_at old s)
+  page_body-same s e = λ i. eqb (format-same k s e i) 2 && eqb (length-same k s e i) page_entries
+
+  pub is_page-same : (i : ℕ) → i < page_places → is_page new i ≡ is_page old i
+  unfolding is_page
+  is_page-same i l =
+      ap (passes (λ s. is_there (new.cell s) && is_page_body (body_at new s) && not (is_first new s) && not (any_below (λ j. tells new j s) i))) (root-named i l)
+      ∙ passes-same (λ s. is_there (new.cell s) && is_page_body (body_at new s) && not (is_first new s) && not (any_below (λ j. tells new j s) i))
+      (λ s. is_there (old.cell s) && is_page_body (body_at old s) && not (is_first old s) && not (any_below (λ j. tells old j s) i)) (old.to (root_slot old i)) test
+    where
+      test : (s : ℕ) → (is_there (new.cell s) && is_page_body (body_at new s) && not (is_first new s) && not (any_below (λ j. tells new j s) i)) ≡ (is_there (old.cell s) && is_page_body (body_at old s) && not (is_first old s) && not (any_below (λ j. tells old j s) i))
+      test s =
+          let front = and-same (is_there (new.cell s)) (is_there (old.cell s)) (is_page_body (body_at new s)) (is_page_body (body_at old s)) (there-same k s) (page_body-same s) in
+          let none = any_below-same (λ j. tells new j s) (λ j. tells old j s) i (λ j m. tells-same j s (omega (arith, l, m))) in
+          λ x. front x && not (is_first-same s x) && not (none x)
+
+  pub internal-same : (s : ℕ) → is_internal new s ≡ is_internal old s
+  unfolding is_internal
+  internal-same s =
+      let three = first-five k 3 (omega arith) in
+      let four = first-five k 4 (omega arith) in
+      let nil = first-five k 0 (omega arith) in
+      let some = any_below-same (λ i. tells new i s) (λ i. tells old i s) page_places (λ i l. tells-same i s l) in
+      λ x. eqb s (three x) || eqb s (four x) || (not (eqb s (nil x)) && some x)
+
+  pub ordinary-same : (s : ℕ) → is_ordinary new s ≡ is_ordinary old s
+  ordinary-same s = λ x. there-same k s x && not (internal-same s x)
+
+  -- the first three chunks are ordinary
+  pub outer : (j : ℕ) → j < 3 → is_internal old (first old j) ≡ false
+  unfolding is_internal
+  outer j l =
+      or_from _ _ (or_from _ _ (ne_eqb _ _ (apart k j 3 (omega arith) (omega arith))) (ne_eqb _ _ (apart k j 4 (omega arith) (omega arith))))
+      (elim (cases_eq j 0) [
+        | inl zeroth ↦ ap (λ b. not b && any_below (λ i. tells old i (first old j)) page_places) (eq-eqb (first old j) (first old 0) (ap (first old) zeroth))
+        | inr later ↦ and_right _ _ (any_below-none (λ i. tells old i (first old j)) page_places (λ i m. untold i m (omega arith)))
+      ])
+    where
+      untold : (i : ℕ) → i < page_places → 0 < j → tells old i (first old j) ≡ false
+      untold i m p = elim (cases_Bool (tells old i (first old j))) [
+        | inr off ↦ off
+        | inl on ↦
+            let named = at-named (first old j) (old.to (root_slot old i)) on in
+            elim (place_cases i m) [
+              | inl nil ↦ let other = at-named (first old 0) (old.to (root_slot old i)) nil in let same : first old 0 ≡ first old j = cc in absurd (apart k 0 j p (omega arith) same)
+              | inr page ↦ let q = a_page old i page in let other = q.1.named in let same : q.0 ≡ first old j = cc in absurd (not_first old q.0 j (omega arith) q.1.later same)
+            ]
+      ]
+
+  pub nil_ordinary : is_ordinary old (first old 0) ≡ true
+  nil_ordinary = λ i. k.loadable.objects 0 (omega arith) i && not (outer 0 (omega arith) i)

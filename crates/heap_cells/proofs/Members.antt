@@ -1,0 +1,46 @@
+-- Membership by recursion on the list, for inductions on a row.
+use Rattle.std.proofs.Common.{◌≡◌, ◌⊎◌, ℕ, suc, zero, ◌<◌, List, [], ◌∷◌, ◌++◌, length, get_or, refl, ap, inl, inr, arith}
+use Rattle.std.specs.List.{Contains}
+use Rattle.spur_graph.specs.Chunks.{Chunk}
+use Rattle.heap_cells.specs.Rows.{starts_of}
+
+abbrev pub In : {X : Type 0} → List X → X → Type 0
+In [] x = ⊥
+In (y ∷ ys) x = (y ≡ x) ⊎ In ys x
+
+pub in_at : {X : Type 0} → (xs : List X) (x : X) (k : ℕ) → k < length xs → get_or xs k x ≡ x → In xs x
+in_at [] x k l e = absurd (omega arith)
+in_at (y ∷ ys) x zero l e = inl e
+in_at (y ∷ ys) x (suc k) l e = inr (in_at ys x k (omega arith) e)
+
+pub in_list : {X : Type 0} → (xs : List X) (x : X) → Contains xs x → In xs x
+in_list xs x k = in_at xs x k.0 k.1 k.2
+
+pub listed : {X : Type 0} → (xs : List X) (x : X) → In xs x → Contains xs x
+listed [] x k = absurd k
+listed (y ∷ ys) x k = elim k [
+  | inl e ↦ (0, omega arith, e)
+  | inr m ↦ let r = listed ys x m in (suc r.0, omega (arith, r.1), r.2)
+]
+
+-- each start is that of a chunk
+pub chunk_of_start : (cs : List Chunk) (s : ℕ) → In (starts_of cs) s → (c : Chunk) × In cs c × (c.start ≡ s)
+chunk_of_start [] s k = absurd k
+chunk_of_start (c ∷ cs) s k = elim k [
+  | inl e ↦ (c, inl refl, e)
+  | inr m ↦ let r = chunk_of_start cs s m in (r.0, inr r.1, r.2)
+]
+
+pub start_of_chunk : (cs : List Chunk) (c : Chunk) → In cs c → In (starts_of cs) c.start
+start_of_chunk [] c k = absurd k
+start_of_chunk (d ∷ cs) c k = elim k [
+  | inl e ↦ inl (ap (λ (x : Chunk). x.start) e)
+  | inr m ↦ inr (start_of_chunk cs c m)
+]
+
+pub in_either : {X : Type 0} → (xs ys : List X) (x : X) → In (xs ++ ys) x → In xs x ⊎ In ys x
+in_either [] ys x k = inr k
+in_either (y ∷ xs) ys x k = elim k [
+  | inl e ↦ inl (inl e)
+  | inr m ↦ elim (in_either xs ys x m) [ inl a ↦ inl (inr a) | inr b ↦ inr b ]
+]

@@ -1,0 +1,4 @@
+pub mod Rows
+pub mod RowWrites
+pub mod Settled
+pub mod Settling
