@@ -9,7 +9,7 @@ use Rattle.object_header.specs.declared.header.TheConstants.{BRIDGE_CLASS}
 use Rattle.spur_graph.specs.Cells.{Body, pointer_count, unit_count, is_formed, units, unit_at}
 
 -- only a method reads its first slot
-pointers-same : (f n l m : ℕ) → (24 ≤ f → l ≡ m) → pointer_slots_of f n l ≡ pointer_slots_of f n m
+pub pointers-same : (f n l m : ℕ) → (24 ≤ f → l ≡ m) → pointer_slots_of f n l ≡ pointer_slots_of f n m
 pointers-same f n l m e = elim (cases_lt f 24) [
   | inl a ↦ let q : (x : ℕ) → cond (ltb f 24) 0 (x + 1) ≡ 0 = λ x. ap (λ b. cond b 0 (x + 1)) (lt-ltb f 24 a) in ap (cond (ltb f 6) n) (q l ∙ sym (q m))
   | inr a ↦ ap (pointer_slots_of f n) (e a)

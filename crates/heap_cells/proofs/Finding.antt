@@ -9,10 +9,10 @@ use Rattle.std.specs.Cmp.{nat_cmp_total, eq_by_cmp_equiv, ranked}
 use Rattle.std.specs.FinSet.{contains, from_list, contains-from_list}
 use Rattle.std.specs.FinMap.{get, from_entries, find, get-from_entries}
 
-same_key : (a b : ℕ) → a ≡ b → eq_by_cmp nat_cmp a b ≡ true
+pub same_key : (a b : ℕ) → a ≡ b → eq_by_cmp nat_cmp a b ≡ true
 same_key a b is = ap (eq_by_cmp nat_cmp a) (sym is) ∙ (eq_by_cmp_equiv nat_cmp_total).refl a
 
-key_same : (a b : ℕ) → eq_by_cmp nat_cmp a b ≡ true → a ≡ b
+pub key_same : (a b : ℕ) → eq_by_cmp nat_cmp a b ≡ true → a ≡ b
 key_same a b is = elim (nat_cmp a b) as (λ r. r ≡ nat_cmp a b → is_eq r ≡ true → a ≡ b) [
   | Less ↦ λ e t. cc
   | Equal ↦ λ e t. ranked a b Equal e

@@ -23,12 +23,12 @@ at_tag n named word =
     cond (eqb n 0) (Some (named word)) (cond (eqb n 1) (Some (Int (int_of word))) (cond (eqb n 2) (cond (ltb (word / 8) (2 ^ 30)) (Some (Char (word / 8))) None) (cond (eqb n 4) (Some (Float word)) None)))
 
 -- the value of an immediate, which has no name in it
-record IsFixed (w : ℕ) : Type 0 where
-  value : Value
-  is : (f : ℕ → Value) → value_of f w ≡ Some value
-  same : (p : ℕ → ℕ) → rename p value ≡ value
+pub record IsFixed (w : ℕ) : Type 0 where
+  pub value : Value
+  pub is : (f : ℕ → Value) → value_of f w ≡ Some value
+  pub same : (p : ℕ → ℕ) → rename p value ≡ value
 
-fixed : (w : ℕ) → is_immediate_word w ≡ true → IsFixed w
+pub fixed : (w : ℕ) → is_immediate_word w ≡ true → IsFixed w
 fixed w e = elim (or_cases ((eqb (w % 8) 1) || (eqb (w % 8) 2 && ltb (w / 8) (2 ^ 30))) (eqb (w % 8) 4) e) [
   | inl a ↦ elim (or_cases (eqb (w % 8) 1) (eqb (w % 8) 2 && ltb (w / 8) (2 ^ 30)) a) [
     | inl b ↦ record { value = Int (int_of w); is = λ f. ap (λ n. at_tag n f w) (eqb-true (w % 8) 1 b); same = λ p. refl }
@@ -54,22 +54,22 @@ no_value f w n off =
     ∙ ap (λ b. cond (eqb (w % 8) 2) (cond (ltb (w / 8) (2 ^ 30)) (Some (Char (w / 8))) None) (cond b (Some (Float w)) None)) all.1
     ∙ neither (eqb (w % 8) 2) (ltb (w / 8) (2 ^ 30)) (Char (w / 8)) front.1
 
-read-reference : (name : ℕ → ℕ) (h : Store) (w : ℕ) → w % 8 ≡ 0 → read name h w ≡ reference name h w
+pub read-reference : (name : ℕ → ℕ) (h : Store) (w : ℕ) → w % 8 ≡ 0 → read name h w ≡ reference name h w
 unfolding read
 read-reference name h w e = ap (λ n. unwrap_or (at_tag n (reference name h) w) (Ref (name (first h 0)))) e
 
-read-none : (name : ℕ → ℕ) (h : Store) (w : ℕ) → w % 8 ≢ 0 → is_immediate_word w ≡ false → read name h w ≡ Ref (name (first h 0))
+pub read-none : (name : ℕ → ℕ) (h : Store) (w : ℕ) → w % 8 ≢ 0 → is_immediate_word w ≡ false → read name h w ≡ Ref (name (first h 0))
 unfolding read
 read-none name h w n off = ap (λ o. unwrap_or o (Ref (name (first h 0)))) (no_value (reference name h) w n off)
 
-read-fixed : (name : ℕ → ℕ) (h : Store) (w : ℕ) (v : IsFixed w) → read name h w ≡ v.value
+pub read-fixed : (name : ℕ → ℕ) (h : Store) (w : ℕ) (v : IsFixed w) → read name h w ≡ v.value
 unfolding read
 read-fixed name h w v = ap (λ o. unwrap_or o (Ref (name (first h 0)))) (v.is (reference name h))
 
-reference-good : (name : ℕ → ℕ) (h : Store) (w s : ℕ) → is_good_reference h w ≡ true → lead h w ≡ Some s → reference name h w ≡ Ref (name s)
+pub reference-good : (name : ℕ → ℕ) (h : Store) (w s : ℕ) → is_good_reference h w ≡ true → lead h w ≡ Some s → reference name h w ≡ Ref (name s)
 reference-good name h w s good is = ap (λ b. cond b (Ref (name (unwrap_or (lead h w) (first h 0)))) (Ref (name (first h 0)))) good ∙ ap (λ o. Ref (name (unwrap_or o (first h 0)))) is
 
-reference-bad : (name : ℕ → ℕ) (h : Store) (w : ℕ) → is_good_reference h w ≡ false → reference name h w ≡ Ref (name (first h 0))
+pub reference-bad : (name : ℕ → ℕ) (h : Store) (w : ℕ) → is_good_reference h w ≡ false → reference name h w ≡ Ref (name (first h 0))
 reference-bad name h w bad = ap (λ b. cond b (Ref (name (unwrap_or (lead h w) (first h 0)))) (Ref (name (first h 0)))) bad
 
 module _ {old new : Store} (k : Both old new) where

@@ -5,7 +5,7 @@ use Rattle.std.specs.List.Sorted.{IsNonDecreasingBy}
 use Rattle.spur_graph.specs.ImageFile.{header_bytes}
 use Rattle.spur_graph.specs.Segments.{Segment, word_count, total_words, word_in, offset_in, is_bad_size, bridge_bytes, greatest_end}
 use Rattle.heap_segments.specs.declared.entry.Entry.{Entry}
-use Rattle.heap_segments.specs.Rising.{IsAbove, IsRising, has_address, end_address, end_place}
+use Rattle.heap_segments.specs.Rising.{IsAbove, IsRising, has_address, end_address, end_place, segment_at}
 use Rattle.heap_segments.specs.Entries.{segment_of, segments_of, AreLaidFrom, AreLaid, IsNear, word_within, blank, entry_at}
 use Rattle.heap_segments.proofs.Rising.{total-cons, word-cons, word-none, has_no_lower, has_no_higher}
 
@@ -203,3 +203,21 @@ pub place_pushed : (at : ℕ) (es : List Entry) (e : Entry) → end_place at (se
 unfolding end_place
 place_pushed at [] e = refl
 place_pushed at (f ∷ rest) e = place_pushed (f.at + f.size) rest e
+
+-- the segment of an entry
+pub segment_of_entry : (es : List Entry) (i : ℕ) → i < length es → segment_at (segments_of es) i ≡ segment_of (entry_at es i)
+segment_of_entry [] i lt = absurd (omega arith)
+segment_of_entry (e ∷ rest) zero lt = refl
+segment_of_entry (e ∷ rest) (suc i) lt = segment_of_entry rest i (omega arith)
+
+low_end : (at floor word : ℕ) (es : List Entry) → AreLaidFrom at floor word es → at ≤ end_place at (segments_of es)
+unfolding end_place
+low_end at floor word [] laid = omega arith
+low_end at floor word (e ∷ rest) laid = omega (arith, laid.0.place, low_end (e.at + e.size) (e.address + e.size) (word + word_count (segment_of e)) rest laid.1)
+
+-- no segment ends behind the place behind them all
+pub ends_within : (at floor word : ℕ) (es : List Entry) (i : ℕ) → AreLaidFrom at floor word es → i < length es → (entry_at es i).at + (entry_at es i).size ≤ end_place at (segments_of es)
+unfolding end_place
+ends_within at floor word [] i laid lt = absurd (omega arith)
+ends_within at floor word (e ∷ rest) zero laid lt = low_end (e.at + e.size) (e.address + e.size) (word + word_count (segment_of e)) rest laid.1
+ends_within at floor word (e ∷ rest) (suc i) laid lt = ends_within (e.at + e.size) (e.address + e.size) (word + word_count (segment_of e)) rest i laid.1 (omega arith)

@@ -1,5 +1,5 @@
 -- Segments that rise, and which word of the heap has which address.
-use Rattle.std.specs.Prelude.{◌≡◌, ◌≤◌, ◌<◌, ℕ, ◌+◌, ◌*◌, ◌%◌, List, [], ◌∷◌, length, Some, Bool, nat_eq, nat_lt, ◌&&◌, ◌||◌, not}
+use Rattle.std.specs.Prelude.{◌≡◌, ◌≤◌, ◌<◌, ℕ, ◌+◌, ◌*◌, ◌%◌, List, [], ◌∷◌, length, slice_index_or, Some, Bool, nat_eq, nat_lt, ◌&&◌, ◌||◌, not}
 use Rattle.spur_graph.specs.Segments.{Segment, bridge_bytes, greatest_end, most_segments, end_of, is_bad_size, word_count, total_words, word_in, address_in}
 
 -- a segment begins at this address or above it, and is whole words with a bridge at least
@@ -24,6 +24,10 @@ end_address address (s ∷ rest) = end_address (end_of s) rest
 unfoldable pub end_place : ℕ → List Segment → ℕ
 end_place at [] = at
 end_place at (s ∷ rest) = end_place (s.at + s.size) rest
+
+-- a segment of these; where there is none, one of no bytes
+abbrev pub segment_at : List Segment → ℕ → Segment
+segment_at segs i = slice_index_or segs i (record { at = 0; size = 0; address = 0 })
 
 -- a segment can't follow these
 abbrev pub is_refused : List Segment → ℕ → ℕ → ℕ → Bool

@@ -1,8 +1,8 @@
 // The entries of an address map, and the search among them.
 ghost use Rattle.std.specs.Prelude.{◌≡◌, ◌≤◌, ◌<◌, ◌+◌, ◌-◌, ◌*◌, ◌^◌, ◌%◌, ℕ, length, take, IfSome, IfNone};
 ghost use Rattle.spur_graph.specs.ImageFile.{header_bytes};
-ghost use Rattle.spur_graph.specs.Segments.{is_bad_size, word_count, total_words, word_in, offset_in};
-ghost use Rattle.heap_segments.specs.Rising.{end_place};
+ghost use Rattle.spur_graph.specs.Segments.{is_bad_size, bridge_bytes, greatest_end, word_count, total_words, word_in, offset_in};
+ghost use Rattle.heap_segments.specs.Rising.{end_place, segment_at};
 ghost use Rattle.heap_segments.specs.Entries.{segment_of, segments_of, AreLaid, IsLastUpTo, IsNear, entry_at, word_within};
 
 /// Bytes of the header, behind which the first segment lies.
@@ -137,4 +137,28 @@ pub(crate) fn begin_of(entries: &[Entry], i: usize) -> usize
     }
     let entry = entries[i];
     entry.begin
+}
+
+/// The place in the file of a segment.
+pub(crate) fn place_of(entries: &[Entry], i: usize) -> u64
+    requires laid { AreLaid entries.now }
+    requires some { i < length entries.now }
+    ensures place { result ≡ (segment_at (segments_of entries.now) i).at }
+    ensures near { result + 8 * word_count (segment_at (segments_of entries.now) i) ≤ header_bytes + greatest_end }
+    ensures within { result + (segment_at (segments_of entries.now) i).size ≤ end_place header_bytes (segments_of entries.now) }
+{
+    let entry = entries[i];
+    entry.at
+}
+
+/// How many words of objects a segment has.
+pub(crate) fn word_count_of(entries: &[Entry], i: usize) -> usize
+    requires laid { AreLaid entries.now }
+    requires some { i < length entries.now }
+    ensures words { result ≡ word_count (segment_at (segments_of entries.now) i) }
+    ensures bytes { 8 * result + bridge_bytes ≡ (segment_at (segments_of entries.now) i).size }
+    ensures low { total_words (take i (segments_of entries.now)) + result ≤ 2 ^ 59 }
+{
+    let entry = entries[i];
+    entry.words()
 }

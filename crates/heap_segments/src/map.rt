@@ -1,12 +1,14 @@
 // The segments of an image, entered one after another.
-ghost use Rattle.std.specs.Prelude.{◌≡◌, ◌≤◌, ◌<◌, ◌%◌, ◌+◌, ◌↔◌, ◌++◌, ◌∷◌, [], length, take, true, IfOk, OnOk, OnErr, IsErr, IfErr};
+ghost use Rattle.std.specs.Prelude.{◌≡◌, ◌≤◌, ◌<◌, ◌%◌, ◌+◌, ◌*◌, ◌^◌, ◌↔◌, ◌++◌, ◌∷◌, [], length, take, true, IfOk, OnOk, OnErr, IsErr, IfErr};
 ghost use Rattle.spur_graph.specs.ImageFile.{header_bytes};
-ghost use Rattle.spur_graph.specs.Segments.{Segment, most_segments, total_words, word_in, offset_in};
-ghost use Rattle.heap_segments.specs.Rising.{IsRising, end_address, end_place, is_refused};
+ghost use Rattle.spur_graph.specs.Segments.{Segment, bridge_bytes, greatest_end, most_segments, word_count, total_words, word_in, offset_in};
+ghost use Rattle.heap_segments.specs.Rising.{IsRising, end_address, end_place, is_refused, segment_at};
 ghost use Rattle.heap_segments.specs.declared.bridge.SegmentFault.TheVariants.{Size};
 
 use crate::bridge::SegmentFault;
-use crate::entry::{Entry, begin_of, behind, is_misfit, offset_of, word_at};
+use crate::entry::{
+    Entry, begin_of, behind, is_misfit, offset_of, place_of, word_at, word_count_of,
+};
 use spur_words::NoMemory;
 use std::alloc::Global;
 use std::marker::Model;
@@ -67,6 +69,26 @@ impl AddressMap {
         ensures { result ≡ total_words (take i self.now) }
     {
         begin_of(self.entries.as_slice(), i)
+    }
+
+    /// The place in the file of segment `i`.
+    pub fn place(&self, i: usize) -> u64
+        requires { i < length self.now }
+        ensures place { result ≡ (segment_at self.now i).at }
+        ensures near { result + 8 * word_count (segment_at self.now i) ≤ header_bytes + greatest_end }
+        ensures within { result + (segment_at self.now i).size ≤ end_place header_bytes self.now }
+    {
+        place_of(self.entries.as_slice(), i)
+    }
+
+    /// How many words of objects segment `i` has.
+    pub fn word_count(&self, i: usize) -> usize
+        requires { i < length self.now }
+        ensures words { result ≡ word_count (segment_at self.now i) }
+        ensures bytes { 8 * result + bridge_bytes ≡ (segment_at self.now i).size }
+        ensures low { total_words (take i self.now) + result ≤ 2 ^ 59 }
+    {
+        word_count_of(self.entries.as_slice(), i)
     }
 
     /// Enters the next segment, of `size` bytes with its bridge, where `left` bytes of the heap are left, its own among them.

@@ -1,8 +1,6 @@
-pub mod Bytes
-pub mod Fields
-pub mod Files
-pub mod Told
-pub mod Heads
-pub mod Walks
-pub mod Ordinary
-pub mod Roots
+pub mod Telling
+pub mod Inside
+pub mod Forwarding
+pub mod Reading
+pub mod Settling
+pub mod Adopting

@@ -1,4 +1,3 @@
-pub mod Faults
-pub mod Found
-pub mod Headers
 pub mod Loaded
+pub mod Passes
+pub mod Images

@@ -1,22 +1,23 @@
 //! The loader: an image file becomes a heap, or is refused by its first cause.
 //!
-//! An image is a header of 128 bytes and a heap, in the format of 64-bit Spur images. A reference in it is a file address, and whoever
-//! reads a heap follows references without a test; so before anything else reads one, the loader has checked every slot. The layer
-//! above rests on this: an accepted image is words whose ordinary objects lie within them and whose slots
-//! name ordinary objects or are immediates, and these are exactly the words of the file. It is linear in the file: each byte is
-//! read once, and a reference is looked up in a map of one bit a word.
+//! The front of the file comes first, and no memory is taken for a heap before the file is known to be as long as its header promises. The words of
+//! its objects are then read into the places of the heap, tested there, and turned there into words of a heap: there is no second copy of them. Nothing in a
+//! file is believed before it is tested, so that whatever the bytes are a heap stands for a graph.
+//!
+//! The layers above rest on this: a file that loads is one to which no cause applies, and the heap stands for the graph and the room of its bytes,
+//! up to names; a file that is refused is told its first cause, of the least place where it applies; and a failed read is told where one failed, and
+//! nowhere else. Loading ends for every file, in time linear in its bytes. A place is told as an offset in the file.
+//!
+//! The layout is that of 64-bit Spur, image format 68021. The order of the causes is that of the definitions in `spur_graph`.
 #![tactic(auto)]
 
+mod checks;
 mod error;
-mod header;
+mod image;
 mod loader;
 mod objects;
-mod pages;
-mod slots;
-mod starts;
 #[cfg(test)]
 mod tests;
-mod words;
 
 pub use error::LoadError;
 pub use loader::load;

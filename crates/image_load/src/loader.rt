@@ -1,68 +1,68 @@
 // An image file, loaded.
-ghost use Rattle.std.specs.Prelude.{◌≡◌, ◌≤◌, ◌<◌, ◌+◌, ◌*◌, ◌%◌, ◌^◌, length, IfOk, IfErr, IfSome, IfNone};
-ghost use Rattle.spur_graph.specs.Causes.{IsAccepted};
-ghost use Rattle.spur_graph.specs.FirstForm.{IsFirstHeap};
-ghost use Rattle.spur_heap.specs.Heaps.{IsHeap};
-ghost use Rattle.image_load.specs.Headers.{IsLoadable};
-ghost use Rattle.image_load.specs.Loaded.{IsImageOf, IsCauseOf, LoadCause, IsMade};
+ghost use Rattle.std.specs.Prelude.{◌≡◌, ℕ, List, IfOk, IfErr, IfSome};
+ghost use Rattle.std.specs.FinMap as map;
+ghost use Rattle.spur_graph.specs.ImageCauses.{IsAccepted};
+ghost use Rattle.spur_graph.specs.LoadedGraph.{loaded_graph, loaded_room};
+ghost use Rattle.spur_graph.specs.Heaps.{Stands};
+ghost use Rattle.image_load.specs.Loaded.{AreLimits, IsCauseOf, LoadCause};
+ghost use Rattle.image_load.specs.Passes.{IsNoFault};
+ghost use Rattle.image_load.specs.Images.{IsImageOf, IsSoundImage};
 
 use crate::LoadError;
-use crate::header::{HEADER_BYTES, ImageHeader, header_of};
-use crate::objects::first_objects;
-use crate::slots::address_of;
-use crate::words::read_objects;
+use crate::image::{Image, read_image};
+use crate::objects::settle_front;
+use image_settle::put_room;
+use spur_graph::Limits;
 use spur_heap::Heap;
-use spur_io::{Files, read_full};
-use spur_words::{NoMemory, Region};
+use spur_io::Files;
 use std::alloc::Global;
 
-/// The heap that the words of objects are; none where they are not of the form that is loaded.
-fn heap_of(alloc: Global, header: ImageHeader, words: Region) -> Result<Option<Heap>, NoMemory>
-    requires loadable { IsLoadable header }
-    requires all { 8 * length words + 16 ≡ header.heap_bytes }
-    ensures made { IfOk result (λ o. IfSome o (IsMade header words)) }
-    ensures sound { IfOk result (λ o. IfSome o IsHeap) }
-    ensures none { IfOk result (λ o. IfNone o (IsFirstHeap header.base header.special words → ⊥)) }
+/// How many states the drawing of identity hashes has.
+const HASH_STATES: u64 = 1 << 32;
+
+/// Makes a heap of an image that was read. The state from which identity hashes are drawn is the low half of the header's.
+fn adopt(alloc: Global, image: Image) -> Result<Heap, LoadError>
+    requires { IsSoundImage image }
+    ensures stands { IfOk result (λ h. (bytes : List ℕ) → IsImageOf bytes image → IsAccepted bytes image.bare.limits × Stands h (loaded_graph bytes) (loaded_room bytes image.bare.limits)) }
+    ensures fresh { IfOk result (λ h. (h.handles ≡ map.empty) × (h.limits ≡ image.bare.limits)) }
+    ensures refused { IfErr result (λ e. (bytes : List ℕ) → IsImageOf bytes image → IsCauseOf bytes image.bare.limits e) }
+    ensures fault { IfErr result IsNoFault }
 {
-    let Some(firsts) = first_objects(alloc, header.base, &words, header.special)? else {
-        return Ok(None);
+    let Image {
+        header,
+        map,
+        mut bare,
+    } = image;
+    let special = match settle_front(alloc, &mut bare.region, &map, header.special) {
+        Ok(special) => special,
+        Err(error) => return Err(error),
     };
-    let firsts = firsts.as_slice();
-    Ok(Some(Heap {
-        base: header.base,
-        words,
-        special: header.special,
-        hash: header.hash,
-        nil: address_of(header.base, firsts[0]),
-        no: address_of(header.base, firsts[1]),
-        yes: address_of(header.base, firsts[2]),
-    }))
+    put_room(&mut bare.region, map.words(), bare.limits.room);
+    Ok(Heap::adopt(
+        bare,
+        special,
+        (header.last_hash % HASH_STATES) as u32,
+        header.carried,
+    ))
 }
 
-/// Loads the image file of this name.
-///
-/// The causes of refusal are tried in this order: [`LoadError::Short`], [`LoadError::Format`], [`LoadError::Unsupported`]. A failed
-/// read and want of memory come in place of whatever would follow. The file is read once, in pieces of 64 KiB; besides the
-/// words it takes one such piece and a bit for each word.
-pub fn load<F: Files>(alloc: Global, files: &mut F, name: &str) -> Result<Heap, LoadError>
-    ensures image { IfOk result (λ h. IfSome (F.told files.old) (λ store. IsAccepted (store name.now) × IsImageOf (store name.now) h)) }
-    ensures sound { IfOk result IsHeap }
-    ensures refused { IfErr result (λ e. IfSome (F.told files.old) (λ store. IsCauseOf (store name.now) e)) }
+/// Loads the image file of this name, with room for further objects as the limits say. Eden and survivor spaces have no words so far.
+pub fn load<F: Files>(
+    alloc: Global,
+    files: &mut F,
+    name: &str,
+    limits: Limits,
+) -> Result<Heap, LoadError>
+    requires { AreLimits limits }
+    ensures stands { IfOk result (λ h. IfSome (F.told files.old) (λ store. IsAccepted (store name.now) limits × Stands h (loaded_graph (store name.now)) (loaded_room (store name.now) limits))) }
+    ensures fresh { IfOk result (λ h. (h.handles ≡ map.empty) × (h.limits ≡ limits)) }
+    ensures refused { IfErr result (λ e. IfSome (F.told files.old) (λ store. IsCauseOf (store name.now) limits e)) }
     ensures same { F.told files.new ≡ F.told files.old }
     ensures cause { LoadCause (F.read_count files.old) (F.read_count files.new) result }
     ensures other { F.write_count files.new ≡ F.write_count files.old }
 {
-    let mut front = [0; HEADER_BYTES];
-    let count = read_full(files, name, 0, &mut front)?;
-    if count < HEADER_BYTES {
-        return Err(LoadError::Short(count as u64));
-    }
-    let header = header_of(&front)?;
-    let Some(words) = read_objects(alloc, files, name, header.heap_bytes as usize)? else {
-        return Err(LoadError::Unsupported);
-    };
-    match heap_of(alloc, header, words)? {
-        Some(heap) => Ok(heap),
-        None => Err(LoadError::Unsupported),
+    match read_image(alloc, files, name, limits) {
+        Ok(image) => adopt(alloc, image),
+        Err(error) => Err(error),
     }
 }

@@ -1,67 +1,72 @@
-// Whether some words are the objects of an image.
-ghost use Rattle.std.specs.Prelude.{◌≡◌, ◌%◌, ◌^◌, ◌≤◌, ◌<◌, ℕ, length, take, IfOk, IfSome, IfNone, true, false};
-ghost use Rattle.std.specs.List.{All};
-ghost use Rattle.heap_walk.specs.Starts.{has_start, covered};
-ghost use Rattle.spur_graph.specs.Objects.{starts as starts_of, ordinary_starts};
-ghost use Rattle.spur_graph.specs.FirstForm.{HasInternal, IsFirstHeap};
-ghost use Rattle.image_load.specs.Found.{IsWalked, IsOrdinaryMap, IsFound};
+// The objects of an image, tested and settled.
+ghost use Rattle.std.specs.Prelude.{◌≡◌, ◌<◌, ◌≤◌, ◌^◌, ℕ, List, length, take, IfOk, IfErr};
+ghost use Rattle.spur_graph.specs.declared.limits.Limits.{Limits};
+ghost use Rattle.spur_graph.specs.ImageCauses.{IsAccepted};
+ghost use Rattle.spur_graph.specs.Segments.{total_words};
+ghost use Rattle.image_checks.specs.Checks.{AreOf};
+ghost use Rattle.image_load.specs.Loaded.{IsCauseOf};
+ghost use Rattle.image_load.specs.Passes.{AreTried, IsNoFault};
+ghost use Rattle.image_load.specs.Images.{AreSettled};
 
-use crate::pages::{has_free_lists, has_roots, take_pages};
-use crate::slots::{is_reference, slots_are_good};
-use crate::starts::{FirstStarts, mark_starts};
-use heap_walk::StartMap;
-use spur_words::{NoMemory, Region};
+use crate::LoadError;
+use crate::checks::check;
+use heap_segments::AddressMap;
+use image_settle::{settle, settled_word};
+use spur_words::Region;
 use std::alloc::Global;
 
-/// Takes the internal objects out of the starts; false where the first five objects do not stand as they must.
-fn take_internal(base: u64, words: &Region, firsts: &[usize], starts: &mut StartMap) -> bool
-    requires aligned { base % 8 ≡ 0 }
-    requires low { base ≤ 2 ^ 60 }
-    requires few { length words.now ≤ 2 ^ 27 }
-    requires covers { covered starts.old ≡ length words.now }
-    requires walked { IsWalked words.now (has_start starts.old) firsts.now }
-    ensures yes { result ≡ true → HasInternal base words.now }
-    ensures no { result ≡ false → HasInternal base words.now → ⊥ }
-    ensures ordinary { result ≡ true → IsOrdinaryMap base words.now (has_start starts.new) }
-    ensures covers { covered starts.new ≡ length words.now }
+/// Tests the words of an image's objects and turns them into those of a heap. `special` is the image's special objects reference,
+/// and the answer is the word that it has in the heap. The error is the first cause that applies to the words, or
+/// [`LoadError::Memory`].
+fn settle_objects(
+    alloc: Global,
+    words: &mut [u64],
+    map: &AddressMap,
+    special: u64,
+) -> Result<u64, LoadError>
+    requires all { AreOf map.now words.old }
+    requires some { 0 < length map.now }
+    requires small { length words.old ≤ 2 ^ 27 }
+    ensures settled { IfOk result (AreSettled map.now words.old words.new special) }
+    ensures accepted { IfOk result (λ _. (bytes : List ℕ) (limits : Limits) → AreTried bytes limits map.now words.old special → IsAccepted bytes limits) }
+    ensures refused { IfErr result (λ e. (bytes : List ℕ) (limits : Limits) → AreTried bytes limits map.now words.old special → IsCauseOf bytes limits e) }
+    ensures fault { IfErr result IsNoFault }
+    ensures long { length words.new ≡ length words.old }
 {
-    if firsts.len() < 5 {
-        return false;
-    }
-    if !has_free_lists(words, firsts[3]) || !has_roots(words, firsts[4]) {
-        return false;
-    }
-    if !take_pages(base, words, firsts, starts) {
-        return false;
-    }
-    starts.unset(firsts[3]);
-    starts.unset(firsts[4]);
-    true
+    // That the segments rise is known of each map.
+    let _segments = map.len();
+    let found = match check(alloc, words, map, special) {
+        Ok(found) => found,
+        Err(error) => return Err(error),
+    };
+    // The reference is followed while the words of forwarders are addresses.
+    let word = settled_word(
+        words,
+        map,
+        &found.starts,
+        &found.ordinary,
+        found.firsts[0],
+        special,
+    );
+    settle(words, map, &found.starts, &found.ordinary, &found.firsts);
+    Ok(word)
 }
 
-/// The first five starts of the objects that the words of an image are; none where an image may not have these words.
-pub(crate) fn first_objects(
+/// The same of the words at the front of a region.
+pub(crate) fn settle_front(
     alloc: Global,
-    base: u64,
-    words: &Region,
+    region: &mut Region,
+    map: &AddressMap,
     special: u64,
-) -> Result<Option<FirstStarts>, NoMemory>
-    requires aligned { base % 8 ≡ 0 }
-    requires low { base ≤ 2 ^ 60 }
-    requires few { length words.now ≤ 2 ^ 27 }
-    ensures found { IfOk result (λ o. IfSome o (λ firsts. IsFound base special words.now firsts.items)) }
-    ensures none { IfOk result (λ o. IfNone o (IsFirstHeap base special words.now → ⊥)) }
+) -> Result<u64, LoadError>
+    requires some { 0 < length map.now }
+    requires within { total_words map.now ≤ length region.old }
+    requires small { length region.old ≤ 2 ^ 27 }
+    ensures settled { IfOk result (AreSettled map.now (take (total_words map.now) region.old) (take (total_words map.now) region.new) special) }
+    ensures accepted { IfOk result (λ _. (bytes : List ℕ) (limits : Limits) → AreTried bytes limits map.now (take (total_words map.now) region.old) special → IsAccepted bytes limits) }
+    ensures refused { IfErr result (λ e. (bytes : List ℕ) (limits : Limits) → AreTried bytes limits map.now (take (total_words map.now) region.old) special → IsCauseOf bytes limits e) }
+    ensures fault { IfErr result IsNoFault }
+    ensures long { length region.new ≡ length region.old }
 {
-    let mut starts = StartMap::new(alloc, words.len())?;
-    let mut firsts = FirstStarts::new();
-    if !mark_starts(words, &mut starts, &mut firsts) {
-        return Ok(None);
-    }
-    if !take_internal(base, words, firsts.as_slice(), &mut starts) {
-        return Ok(None);
-    }
-    if !is_reference(base, words, &starts, special) || !slots_are_good(base, words, &starts) {
-        return Ok(None);
-    }
-    Ok(Some(firsts))
+    settle_objects(alloc, region.window_mut(0, map.words()), map, special)
 }

@@ -163,21 +163,20 @@ part_passed old now next was kept piece rest line behind start so_far after e sa
     (same files script) lines here (answers files script (open_line_of front) here.keeps)
 
 -- at the script's end no line is open
-pub ended_all : (first last : State) (files : Files) (text : Text) (kept before : List ℕ) (so_far : Option (List ℕ)) → last.files ≡ files → length kept ≡ 0 → Answered first last text kept before so_far → AnsweredAll first files (lines_of text) before so_far
+pub ended_all : (first last : State) (files : Files) (text : Text) (kept before : List ℕ) (so_far : Option (List ℕ)) → last.files ≡ files → length kept ≡ 0 → Answered first last text kept before so_far → AnsweredAll first last files (lines_of text) before so_far
 ended_all first last files text kept before so_far same none so =
     let R : List Text → Type 0 = λ lines. Run first lines so.answers last in
-    record { answers = so.answers; last = last; run = subst R (sym (all_ended text (kept_none kept (open_line_of text) so.keeps none))) so.run; same_files = same; put = so.put }
+    record { answers = so.answers; run = subst R (sym (all_ended text (kept_none kept (open_line_of text) so.keeps none))) so.run; same_files = same; put = so.put }
 
 -- the open line at the script's end is answered
 pub open_answered : (first now last : State) (files : Files) (text : Text) (kept before : List ℕ) (so_far after : Option (List ℕ)) (x : Unit {0}) → last.files ≡ files → 0 < length kept → Answered first now text kept before so_far
-    → AnswersLine now last (open_line_of text) so_far after (Ok x) → AnsweredAll first files (lines_of text) before after
+    → AnswersLine now last (open_line_of text) so_far after (Ok x) → AnsweredAll first last files (lines_of text) before after
 open_answered first now last files text kept before so_far after x same some so this =
     let P : Option (List ℕ) → Type 0 = λ o. Puts (answer_line this.answer) o after (Ok x) in
     let put : after ≡ Some ((before ++ answers_text so.answers) ++ answer_line this.answer) = subst P so.put this.put in
     let R : List Text → Type 0 = λ lines. Run first lines (so.answers ++ this.answer ∷ []) last in
     record {
       answers = so.answers ++ this.answer ∷ [];
-      last = last;
       run = subst R (sym (one_open text (kept_some kept (open_line_of text) so.keeps some))) (run_more first now last (ended_lines_of text) (open_line_of text) so.answers this.answer so.run this.step);
       same_files = same;
       put = put ∙ ap (λ bytes. Some bytes) (texts_more before so.answers this.answer);
@@ -220,8 +219,8 @@ whole_part first last files text kept before so_far same so =
     }
 
 -- all answers to the lines that are ended
-pub whole_ended : (first last : State) (files : Files) (text : Text) (kept before : List ℕ) (so_far : Option (List ℕ)) → last.files ≡ files → Answered first last text kept before so_far → AnsweredAll first files (ended_lines_of text) before so_far
-whole_ended first last files text kept before so_far same so = record { answers = so.answers; last = last; run = so.run; same_files = same; put = so.put }
+pub whole_ended : (first last : State) (files : Files) (text : Text) (kept before : List ℕ) (so_far : Option (List ℕ)) → last.files ≡ files → Answered first last text kept before so_far → AnsweredAll first last files (ended_lines_of text) before so_far
+whole_ended first last files text kept before so_far same so = record { answers = so.answers; run = so.run; same_files = same; put = so.put }
 
 -- a length that is not 0
 pub some_length : (n : ℕ) → (n == 0) ≡ false → 0 < n
@@ -230,7 +229,7 @@ some_length n is = grind (arith, nat_tests)
 -- the last line, by how its put went
 pub last_answered : (did : Result (Unit {0}) SinkFault) (now last : Files → Text → State) (kept : List ℕ) (so_far after : Option (List ℕ)) → ((files : Files) (script : Text) → (last files script).files ≡ files) → 0 < length kept
     → ((files : Files) (script text : Text) → kept ≡ kept_of text → AnswersLine (now files script) (last files script) text so_far after did)
-    → OnOk did (AnswersEnd now kept so_far after)
+    → OnOk did (AnswersEnd now last kept so_far after)
 last_answered (Ok x) now last kept so_far after same some answers = λ first files script text before so.
     open_answered first (now files script) (last files script) files text kept before so_far after x (same files script) some so (answers files script (open_line_of text) so.keeps)
 last_answered (Err e) now last kept so_far after same some answers = tt

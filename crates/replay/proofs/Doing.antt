@@ -1,43 +1,63 @@
 -- What commands do, by the values of their handles.
-use Rattle.std.proofs.Common.{◌≡◌, inl, inr, arith, ℕ, ◌^◌, refl, ap, sym, subst, ◌∙◌, Option, Some, set}
+use Rattle.std.proofs.Common.{◌≡◌, inl, inr, arith, ℕ, ◌^◌, refl, ap, sym, subst, ◌∙◌, Option, Some, None, set}
 use Rattle.std.proofs.lemmas.Bool.Decides.{leb_tells}
 use Rattle.std.specs.Prelude.{◌<◌, ◌≤◌, ◌-◌, [], ◌∷◌, ◌↔◌, Bool, Result, Ok, Err, IfOk, IsOk, ℤ, pos, negsuc, nat_le, false}
 use Rattle.std.proofs.Math.Facts.{ltb_yes, yes_ltb, leb_yes, yes_leb}
-use Rattle.std.specs.FinMap.{FinMap}
 use Rattle.spur_graph.specs.declared.answer.Value.{Value}
 use Rattle.spur_graph.specs.declared.answer.Value.TheVariants.{Ref}
 use Rattle.spur_graph.specs.declared.answer.Value.TheVariants as values
 use Rattle.spur_graph.specs.declared.answer.Answer.{Answer}
 use Rattle.spur_graph.specs.declared.answer.Answer.TheVariants as answers
 use Rattle.spur_graph.specs.declared.answer.Refusal.{Refusal}
+use Rattle.spur_graph.specs.declared.answer.Refusal.TheVariants as r
+use Rattle.std.specs.Result.{result_err}
 use Rattle.spur_graph.specs.Bytes.{Text}
-use Rattle.spur_graph.specs.Value.{IsValue, same_value}
+use Rattle.spur_graph.specs.Value.{IsValue, value_of, same_value}
 use Rattle.spur_graph.specs.Node.{Node}
-use Rattle.spur_graph.specs.Graph.{Graph, node, with_node, handle_cmp, held, bind}
-use Rattle.spur_graph.specs.Form.{Form, Same, Store, SetUnit, Fetch}
-use Rattle.spur_graph.specs.Room.{no_room}
+use Rattle.spur_graph.specs.Graph.{Graph, node, with_node, held, bind}
+use Rattle.spur_graph.specs.Form.{Form, Same, Store, SetUnit, Fetch, Class}
 use Rattle.spur_graph.specs.State.{State, Files, bound, with_graph}
 use Rattle.spur_graph.specs.Refusals.{first, handles, int_range}
 use Rattle.spur_graph.specs.Does.{Is, outcome, ok, Does}
 use Rattle.immediates.specs.declared.word_kind.Range.{Range}
-use Rattle.spur_heap.specs.declared.heap.Heap.{Heap}
-use Rattle.spur_heap.specs.Heaps.{graph_in}
-use Rattle.replay.specs.declared.session.Session.{Session}
-use Rattle.replay.specs.Sessions.{graph_of, state_of, handle_values}
-use Rattle.replay.specs.Commands.{Obeys, no_word, value_row}
+use Rattle.spur_graph.specs.Classes.{class_value}
+use Rattle.spur_graph.specs.Heaps.{View, heap_graph, heap_room}
+use Rattle.replay.specs.Sessions.{graph_of, room_of, value_in, state_in}
+use Rattle.replay.proofs.Values.{valued}
+use Rattle.replay.specs.Commands.{Obeys, Becomes, no_word, value_row}
 
 -- the state over a graph
-pub state_moved : (new : Session) (old : State) (g : Graph) → graph_of new ≡ g → old.room ≡ no_room → state_of new old.files old.script ≡ with_graph old g
-state_moved new old g is empty = λ i. record { graph = is i; room = sym empty i; files = old.files; script = old.script }
+pub state_moved : (old new : View) (files : Files) (script : Text) (g : Graph) → Becomes old new g → state_in new files script ≡ with_graph (state_in old files script) g
+state_moved old new files script g is = λ i. record { graph = is.0 i; room = is.1 i; files = files; script = script }
 
 -- a command that binds a handle to a value
-pub binds : (old new : Session) (k : ℕ) (h : Text) (v w : Value) (form : Form) (result : Result Answer Refusal)
-    → ((files : Files) (script : Text) → outcome (state_of old files script) k form ≡ Some (ok (bound (state_of old files script) k h w))) → v ≡ w
-    → IfOk result (λ answer. (answer ≡ answers.Done) × (graph_of new ≡ bind (graph_of old) k h v)) → IfOk result (λ answer. Obeys old k form answer new)
+pub binds : (old new : View) (k : ℕ) (h : Text) (v w : Value) (form : Form) (result : Result Answer Refusal)
+    → ((files : Files) (script : Text) → outcome (state_in old files script) k form ≡ Some (ok (bound (state_in old files script) k h w))) → v ≡ w
+    → IfOk result (λ answer. (answer ≡ answers.Done) × Becomes old new (bind (graph_of old) k h v)) → IfOk result (λ answer. Obeys old k form answer new)
 binds old new k h v w form (Ok answer) says same did = λ files script.
-    let P : Option (Answer × State) → Type 0 = λ o. Is o answer (state_of new files script) in
-    subst P (sym (says files script)) (did.0, state_moved new (state_of old files script) (bind (graph_of old) k h w) (did.1 ∙ ap (bind (graph_of old) k h) same) refl)
+    let P : Option (Answer × State) → Type 0 = λ o. Is o answer (state_in new files script) in
+    subst P (sym (says files script)) (did.0, state_moved old new files script (bind (graph_of old) k h w) (did.1.0 ∙ ap (bind (graph_of old) k h) same, did.1.1))
 binds old new k h v w form (Err e) says same did = tt
+
+-- a command that binds a handle to the word of a value, if it has one
+pub binds_value : (old new : View) (k : ℕ) (h : Text) (w : Value) (form : Form) (value : Result ℕ Range) (result : Result Answer Refusal)
+    → ((files : Files) (script : Text) → outcome (state_in old files script) k form ≡ Some (ok (bound (state_in old files script) k h w)))
+    → IfOk value (λ word. (named : ℕ → Value) → value_of named word ≡ Some w) → first (value_row (graph_of old) k h value) ≡ result_err result
+    → IfOk result (λ answer. (answer ≡ answers.Done) × IfOk value (λ word. Becomes old new (bind (graph_of old) k h (value_in old word)))) → IfOk result (λ answer. Obeys old k form answer new)
+binds_value old new k h w form (Ok word) (Ok answer) says valued_so row did = binds old new k h (value_in old word) w form (Ok answer) says (valued old word w valued_so) did
+binds_value old new k h w form (Err e) (Ok answer) says valued_so row did = absurd (never (handles (graph_of old) k h) row)
+  where
+    never : (o : Option Refusal) → first (o ∷ Some r.Range ∷ []) ≡ None → ⊥
+    never None is = cc
+    never (Some why) is = cc
+binds_value old new k h w form value (Err e) says valued_so row did = tt
+
+pub int_valued : (m n : ℤ) (word : Result ℕ Range) → m ≡ n → IfOk word (λ w. (named : ℕ → Value) → value_of named w ≡ Some (values.Int m)) → IfOk word (λ w. (named : ℕ → Value) → value_of named w ≡ Some (values.Int n))
+int_valued m n word same is = let P : ℤ → Type 0 = λ z. IfOk word (λ w. (named : ℕ → Value) → value_of named w ≡ Some (values.Int z)) in subst P same is
+
+-- the class of a value
+pub class_says : (s : State) (k : ℕ) (h o : Text) (v : Value) → held s.graph k o ≡ Some v → outcome s k (Class h o) ≡ Some (ok (bound s k h (class_value s.graph v)))
+class_says s k h o v is = rw (is) refl
 
 pub fetch_does : (s : State) (k : ℕ) (h o : Text) (i : ℕ) (v w : Value) (new : State) → held s.graph k o ≡ Some v → outcome s k (Fetch h o i) ≡ Some (ok (bound s k h w)) → new ≡ bound s k h w → Does s k (Fetch h o i) answers.Done new
 fetch_does s k h o i v w new is says becomes =
@@ -59,10 +79,12 @@ setunit_does s new k o i a value u n object is named becomes =
     rw (object, is) (refl, becomes ∙ ap (λ (m : Node). with_graph s (with_node s.graph a (record m { units = set m.units i value }))) (sym named))
 
 -- a node of the heap was changed
-pub heap_changed : (s : Session) (h : Heap) (a : ℕ) (n : Node) → h.nil ≡ s.heap.nil → ((held : FinMap handle_cmp Value) → graph_in h held ≡ with_node (graph_in s.heap held) a n)
-    → graph_of (record { heap = h; handles = s.handles }) ≡ with_node (graph_of s) a n
-unfolding graph_of
-heap_changed s h a n same changed = ap (λ nil. graph_in h (handle_values nil s.handles)) same ∙ changed (handle_values s.heap.nil s.handles)
+pub node_changed : (old new : View) (a : ℕ) (n : Node) → heap_graph new ≡ with_node (heap_graph old) a n → heap_room new ≡ heap_room old → Becomes old new (with_node (graph_of old) a n)
+unfolding graph_of room_of
+node_changed old new a n is room = (is, room)
+
+pub becomes : (old new : View) (g : Graph) {h : Graph} → Becomes old new h → h ≡ g → Becomes old new g
+becomes old new g is same = (is.0 ∙ same, is.1)
 
 -- a SmallInteger's number is in range exactly where it has a word
 not_le : (a b : ℕ) → b < a → nat_le a b ≡ false

@@ -1,96 +1,87 @@
--- What a session's graph tells of the words of its heap.
-use Rattle.std.proofs.Common.{◌≡◌, inl, inr, ◌≤◌, ◌<◌, ℕ, List, [], ◌∷◌, length, refl, ap, sym, ◌∙◌, Option, Some, None, Bool, true, false, arith}
-use Rattle.std.proofs.lemmas.Bool.{le-leb}
+-- What a heap's graph tells of the words of the heap.
+use Rattle.std.proofs.Common.{◌≡◌, inl, inr, ◌≤◌, ◌<◌, ℕ, List, [], ◌∷◌, length, map, get_or, refl, ap, sym, ◌∙◌, Option, Some, None, Bool, true, false, cond, arith}
+use Rattle.std.proofs.lemmas.Bool.{le-leb, false≢true, cases_Bool, eqb-true, and_parts}
 use Rattle.std.proofs.lemmas.Bool.Decides.{leb_tells}
-use Rattle.std.specs.Prelude.{nat_le, ◌==◌, ◌&&◌, IfOk, IsSome}
+use Rattle.std.specs.Prelude.{nat_le, nat_eq, ◌==◌, ◌&&◌, not, IfOk, IsSome}
 use Rattle.std.specs.Result.{result_err}
 use Rattle.std.specs.Option.{option_map, unwrap_or, ok_or, is_none, is_some}
-use Rattle.std.specs.List.{All}
-use Rattle.std.specs.FinMap.{FinMap, get, len, insert, remove, empty}
-use Rattle.object_header.specs.Head.{class_of, format_of}
-use Rattle.object_header.specs.Fields.{fields_of}
+use Rattle.std.specs.Cmp.{nat_cmp_total}
+use Rattle.std.specs.FinMap.{get, len, insert, remove, get-from_entries}
 use Rattle.spur_graph.specs.declared.answer.Value.{Value}
 use Rattle.spur_graph.specs.declared.answer.Value.TheVariants.{Ref}
 use Rattle.spur_graph.specs.declared.answer.Refusal.{Refusal}
 use Rattle.spur_graph.specs.declared.answer.Refusal.TheVariants as r
-use Rattle.spur_graph.specs.Graph.{node, blank, handle_cmp, held, bind, unbind}
-use Rattle.spur_graph.specs.Objects.{address, header_at, ordinary_starts, node_at}
-use Rattle.spur_graph.specs.ImageFile.{base, special_word, object_words}
-use Rattle.spur_graph.specs.ImageGraph.{read, nil_in, graph_of_words, image_graph}
-use Rattle.image_load.specs.Loaded.{IsImageOf}
+use Rattle.spur_graph.specs.Graph.{node, blank, held, bind, unbind}
+use Rattle.spur_graph.specs.Chunks.{Chunk, chunks}
+use Rattle.spur_graph.specs.Cells.{Store, first, is_there, cell_in, read_cell}
+use Rattle.spur_graph.specs.Ordinary.{body_at, is_ordinary, is_internal, ordinary_starts}
+use Rattle.spur_graph.specs.CellGraph.{nodes_of}
+use Rattle.spur_graph.specs.CellGraph as cells
 use Rattle.spur_graph.specs.Refusals.{test, unknown, handles}
-use Rattle.spur_heap.specs.declared.heap.Heap.{Heap}
-use Rattle.spur_heap.specs.Heaps.{IsHeap, IsOrdinary, value_in, node_in, graph_in}
-use Rattle.replay.specs.declared.session.Session.{Session}
-use Rattle.replay.specs.Sessions.{graph_of, handle_values}
-use Rattle.replay.specs.Commands.{node_of}
-use Rattle.replay.proofs.Held.{get-handle_values, len-handle_values, handle_values-empty, handle_values-insert, handle_values-remove, remove-none}
-use Rattle.replay.proofs.Nodes.{node_found, node_absent}
+use Rattle.spur_graph.specs.Heaps.{View, IsWhole, heap_graph, heap_to, own_name}
+use Rattle.heap_cells.specs.Rows.{starts_of}
+use Rattle.heap_cells.proofs.Members.{In, listed}
+use Rattle.heap_cells.proofs.Starts.{starts-rise}
+use Rattle.spur_heap.specs.Views.{IsOrdinary, store, node_in}
+use Rattle.replay.specs.Sessions.{graph_of, room_of, value_in}
+use Rattle.replay.specs.Commands.{Becomes, node_of}
+use Rattle.replay.proofs.Held.{get-handle_values, len-handle_values, handle_values-insert, handle_values-remove, remove-none}
+use Rattle.replay.proofs.Tables.{find-listed, find-absent, in_filter, filter_in}
 
 -- handles
-pub held_value : (s : Session) (k : ℕ) (h : List ℕ) (word : ℕ) → get s.handles (k, h) ≡ Some word → held (graph_of s) k h ≡ Some (value_in s.heap word)
+pub held_value : (v : View) (k : ℕ) (h : List ℕ) (word : ℕ) → get v.handles (k, h) ≡ Some word → held (graph_of v) k h ≡ Some (value_in v word)
 unfolding graph_of
-held_value s k h word is = get-handle_values s.heap.nil s.handles (k, h) ∙ ap (option_map (read s.heap.nil)) is
+held_value v k h word is = get-handle_values (value_in v) v.handles (k, h) ∙ ap (option_map (value_in v)) is
 
-pub held_none : (s : Session) (k : ℕ) (h : List ℕ) → get s.handles (k, h) ≡ None → held (graph_of s) k h ≡ None
+pub held_none : (v : View) (k : ℕ) (h : List ℕ) → get v.handles (k, h) ≡ None → held (graph_of v) k h ≡ None
 unfolding graph_of
-held_none s k h is = get-handle_values s.heap.nil s.handles (k, h) ∙ ap (option_map (read s.heap.nil)) is
+held_none v k h is = get-handle_values (value_in v) v.handles (k, h) ∙ ap (option_map (value_in v)) is
 
-pub handles_counted : (s : Session) → len (graph_of s).handles ≡ len s.handles
+pub handles_counted : (v : View) → len (graph_of v).handles ≡ len v.handles
 unfolding graph_of
-handles_counted s = len-handle_values s.heap.nil s.handles
+handles_counted v = len-handle_values (value_in v) v.handles
 
-pub handle_bound : (s : Session) (m : FinMap handle_cmp ℕ) (k : ℕ) (h : List ℕ) (word : ℕ) → m ≡ insert s.handles (k, h) word
-    → graph_of (record { heap = s.heap; handles = m }) ≡ bind (graph_of s) k h (value_in s.heap word)
-unfolding graph_of
-handle_bound s m k h word is = ap (graph_in s.heap) (ap (handle_values s.heap.nil) is ∙ handle_values-insert s.heap.nil s.handles (k, h) word)
+pub handle_bound : (v new : View) (k : ℕ) (h : List ℕ) (word : ℕ) → new ≡ record v { handles = insert v.handles (k, h) word } → Becomes v new (bind (graph_of v) k h (value_in v word))
+unfolding graph_of room_of
+handle_bound v new k h word is =
+    let bound : graph_of (record v { handles = insert v.handles (k, h) word }) ≡ bind (graph_of v) k h (value_in v word) = λ i. record (heap_graph v) { handles = handle_values-insert (value_in v) v.handles (k, h) word i } in
+    (ap graph_of is ∙ bound, ap room_of is)
 
-pub handle_dropped : (s : Session) (m : FinMap handle_cmp ℕ) (k : ℕ) (h : List ℕ) → m ≡ remove s.handles (k, h)
-    → graph_of (record { heap = s.heap; handles = m }) ≡ unbind (graph_of s) k h
-unfolding graph_of
-handle_dropped s m k h is = ap (graph_in s.heap) (ap (handle_values s.heap.nil) is ∙ handle_values-remove s.heap.nil s.handles (k, h))
+pub handle_dropped : (v new : View) (k : ℕ) (h : List ℕ) → new ≡ record v { handles = remove v.handles (k, h) } → Becomes v new (unbind (graph_of v) k h)
+unfolding graph_of room_of
+handle_dropped v new k h is =
+    let dropped : graph_of (record v { handles = remove v.handles (k, h) }) ≡ unbind (graph_of v) k h = λ i. record (heap_graph v) { handles = handle_values-remove (value_in v) v.handles (k, h) i } in
+    (ap graph_of is ∙ dropped, ap room_of is)
 
--- the graph before any handle is bound
-pub first_graph : (h : Heap) (m : FinMap handle_cmp ℕ) (bytes : List ℕ) → m ≡ empty → IsImageOf bytes h → graph_of (record { heap = h; handles = m }) ≡ image_graph bytes
-unfolding graph_of
-first_graph h m bytes is of =
-    ap (graph_in h) (ap (handle_values h.nil) is ∙ handle_values-empty h.nil)
-    ∙ ap (λ b. graph_of_words b h.words h.special h.hash empty) of.base_is
-    ∙ ap (λ ws. graph_of_words (base bytes) ws h.special h.hash empty) of.words_are
-    ∙ ap (λ w. graph_of_words (base bytes) (object_words bytes) w h.hash empty) of.special_is
-    ∙ ap (λ n. graph_of_words (base bytes) (object_words bytes) (special_word bytes) n empty) of.hash_is
+pub handle_kept : (v new : View) (k : ℕ) (h : List ℕ) → get v.handles (k, h) ≡ None → new ≡ record v { handles = remove v.handles (k, h) } → new ≡ v
+handle_kept v new k h none is = is ∙ (λ i. record v { handles = remove-none v.handles (k, h) none i })
 
 -- whether a handle is held
-pub known : (s : Session) (k : ℕ) (h : List ℕ) (word : ℕ) → get s.handles (k, h) ≡ Some word → unknown (graph_of s) k (h ∷ []) ≡ None
-known s k h word is = rw (held_value s k h word is) refl
+pub known : (v : View) (k : ℕ) (h : List ℕ) (word : ℕ) → get v.handles (k, h) ≡ Some word → unknown (graph_of v) k (h ∷ []) ≡ None
+known v k h word is = rw (held_value v k h word is) refl
 
-pub not_known : (s : Session) (k : ℕ) (h : List ℕ) → get s.handles (k, h) ≡ None → unknown (graph_of s) k (h ∷ []) ≡ Some r.Unknown
-not_known s k h is = rw (held_none s k h is) refl
+pub not_known : (v : View) (k : ℕ) (h : List ℕ) → get v.handles (k, h) ≡ None → unknown (graph_of v) k (h ∷ []) ≡ Some r.Unknown
+not_known v k h is = rw (held_none v k h is) refl
 
-pub looked_up : (s : Session) (k : ℕ) (h : List ℕ) (o : Option ℕ) → get s.handles (k, h) ≡ o → unknown (graph_of s) k (h ∷ []) ≡ result_err (ok_or o r.Unknown)
-looked_up s k h None is = not_known s k h is
-looked_up s k h (Some word) is = known s k h word is
+pub looked_up : (v : View) (k : ℕ) (h : List ℕ) (o : Option ℕ) → get v.handles (k, h) ≡ o → unknown (graph_of v) k (h ∷ []) ≡ result_err (ok_or o r.Unknown)
+looked_up v k h None is = not_known v k h is
+looked_up v k h (Some word) is = known v k h word is
 
-pub looked_up_value : (s : Session) (k : ℕ) (h : List ℕ) (o : Option ℕ) → get s.handles (k, h) ≡ o → IfOk (ok_or o r.Unknown) (λ word. held (graph_of s) k h ≡ Some (value_in s.heap word))
-looked_up_value s k h None is = tt
-looked_up_value s k h (Some word) is = held_value s k h word is
+pub looked_up_value : (v : View) (k : ℕ) (h : List ℕ) (o : Option ℕ) → get v.handles (k, h) ≡ o → IfOk (ok_or o r.Unknown) (λ word. held (graph_of v) k h ≡ Some (value_in v word))
+looked_up_value v k h None is = tt
+looked_up_value v k h (Some word) is = held_value v k h word is
 
-pub known_before : (s : Session) (k : ℕ) (h : List ℕ) (o : Option ℕ) → get s.handles (k, h) ≡ o → IsSome o → unknown (graph_of s) k (h ∷ []) ≡ None
-known_before s k h None is some = cc
-known_before s k h (Some word) is some = known s k h word is
+pub known_before : (v : View) (k : ℕ) (h : List ℕ) (o : Option ℕ) → get v.handles (k, h) ≡ o → IsSome o → unknown (graph_of v) k (h ∷ []) ≡ None
+known_before v k h None is some = cc
+known_before v k h (Some word) is some = known v k h word is
 
-pub unknown_before : (s : Session) (k : ℕ) (h : List ℕ) (o : Option ℕ) → get s.handles (k, h) ≡ o → (IsSome o → ⊥) → unknown (graph_of s) k (h ∷ []) ≡ Some r.Unknown
-unknown_before s k h None is none = not_known s k h is
-unknown_before s k h (Some word) is none = absurd (none refl)
+pub unknown_before : (v : View) (k : ℕ) (h : List ℕ) (o : Option ℕ) → get v.handles (k, h) ≡ o → (IsSome o → ⊥) → unknown (graph_of v) k (h ∷ []) ≡ Some r.Unknown
+unknown_before v k h None is none = not_known v k h is
+unknown_before v k h (Some word) is none = absurd (none refl)
 
 pub none_before : (o : Option ℕ) → (IsSome o → ⊥) → o ≡ None
 none_before None none = refl
 none_before (Some word) none = absurd (none refl)
-
-pub handle_kept : (s : Session) (m : FinMap handle_cmp ℕ) (k : ℕ) (h : List ℕ) → get s.handles (k, h) ≡ None → m ≡ remove s.handles (k, h)
-    → graph_of (record { heap = s.heap; handles = m }) ≡ graph_of s
-unfolding graph_of
-handle_kept s m k h none is = ap (λ held. graph_in s.heap (handle_values s.heap.nil held)) (is ∙ remove-none s.handles (k, h) none)
 
 -- whether there is room for a handle
 not_le : (a b : ℕ) → b < a → nat_le a b ≡ false
@@ -100,65 +91,80 @@ untested : (b : Bool) (why : Refusal) → test (b && false) why ≡ None
 untested true why = refl
 untested false why = refl
 
-pub no_room_left : (s : Session) (k : ℕ) (h : List ℕ) → get s.handles (k, h) ≡ None → 65536 ≤ len s.handles → handles (graph_of s) k h ≡ Some r.Handles
-no_room_left s k h none full =
-    let counted : nat_le 65536 (len (graph_of s).handles) ≡ true = ap (nat_le 65536) (handles_counted s) ∙ le-leb 65536 (len s.handles) full in
-    rw (held_none s k h none, counted) refl
+pub no_room_left : (v : View) (k : ℕ) (h : List ℕ) → get v.handles (k, h) ≡ None → 65536 ≤ len v.handles → handles (graph_of v) k h ≡ Some r.Handles
+no_room_left v k h none full =
+    let counted : nat_le 65536 (len (graph_of v).handles) ≡ true = ap (nat_le 65536) (handles_counted v) ∙ le-leb 65536 (len v.handles) full in
+    rw (held_none v k h none, counted) refl
 
-pub room_left : (s : Session) (k : ℕ) (h : List ℕ) → len s.handles < 65536 → handles (graph_of s) k h ≡ None
-room_left s k h few =
-    let counted : nat_le 65536 (len (graph_of s).handles) ≡ false = ap (nat_le 65536) (handles_counted s) ∙ not_le 65536 (len s.handles) few in
-    rw (counted) (untested (is_none (held (graph_of s) k h)) r.Handles)
+pub room_left : (v : View) (k : ℕ) (h : List ℕ) → len v.handles < 65536 → handles (graph_of v) k h ≡ None
+room_left v k h few =
+    let counted : nat_le 65536 (len (graph_of v).handles) ≡ false = ap (nat_le 65536) (handles_counted v) ∙ not_le 65536 (len v.handles) few in
+    rw (counted) (untested (is_none (held (graph_of v) k h)) r.Handles)
 
-pub room_held : (s : Session) (k : ℕ) (h : List ℕ) (o : Option ℕ) → get s.handles (k, h) ≡ o → is_some o ≡ true → handles (graph_of s) k h ≡ None
-room_held s k h None is some = cc
-room_held s k h (Some word) is some = rw (held_value s k h word is) refl
+pub room_held : (v : View) (k : ℕ) (h : List ℕ) (o : Option ℕ) → get v.handles (k, h) ≡ o → is_some o ≡ true → handles (graph_of v) k h ≡ None
+room_held v k h None is some = cc
+room_held v k h (Some word) is some = rw (held_value v k h word is) refl
+
+-- where something stands is a start
+stands_in : (to : ℕ → Option ℕ) (words : List ℕ) (cs : List Chunk) (s : ℕ) → is_there (cell_in to words cs s) ≡ true → In (starts_of cs) s
+unfolding cell_in
+stands_in to words [] s there = absurd (false≢true there)
+stands_in to words (c ∷ cs) s there = elim (cases_Bool (nat_eq c.start s)) [
+  | inl same ↦ inl (eqb-true c.start s same)
+  | inr other ↦ inr (stands_in to words cs s (sym (ap (λ b. is_there (cond b (read_cell to words c) (cell_in to words cs s))) other) ∙ there))
+]
 
 -- names behind the last word are fresh
-pub names_fresh : (s : Session) → IsHeap s.heap → (a : ℕ) → (graph_of s).next ≤ a → get (graph_of s).nodes a ≡ None
-unfolding graph_of
-names_fresh s sound a past =
-    let words = s.heap.words in
-    let near : All (λ t. t < length words) (ordinary_starts s.heap.base words) = λ k d below. let some = (sound.within k d below).some in omega (arith, some) in
-    node_absent (read (nil_in s.heap.base words)) s.heap.base words (ordinary_starts s.heap.base words) (length words) a near past
+pub names_fresh : (v : View) → IsWhole v → (a : ℕ) → (graph_of v).next ≤ a → get (graph_of v).nodes a ≡ None
+unfolding graph_of nodes_of ordinary_starts
+names_fresh v w a past =
+    let h : Store = store v in
+    let below = (starts-rise v.words (length v.words) (chunks v.words) w.cut).below in
+    get-from_entries nat_cmp_total (map (λ s. (s, cells.node_of own_name h (body_at h s))) (ordinary_starts h)) a
+    ∙ find-absent (λ s. cells.node_of own_name h (body_at h s)) (ordinary_starts h) a (λ m.
+    let among = listed h.starts a (filter_in (is_ordinary h) h.starts a m).0 in
+    let low : get_or h.starts among.0 a < length v.words = below among.0 a among.1 in
+    omega (arith, low, among.2, past))
 
 -- the node of an object
-pub node_there : (s : Session) (start : ℕ) → IsHeap s.heap → IsOrdinary s.heap start → node (graph_of s) (address s.heap.base start) ≡ node_in s.heap start
-unfolding graph_of
-node_there s start sound among =
-    let words = s.heap.words in
-    ap (λ o. unwrap_or o blank) (node_found (read (nil_in s.heap.base words)) s.heap.base words (ordinary_starts s.heap.base words) start among)
-    ∙ ap (λ nil. node_at (read nil) words start) (sym sound.nil_there)
+pub node_there : (v : View) (s : ℕ) → IsOrdinary v s → node (graph_of v) s ≡ node_in v s
+unfolding graph_of nodes_of ordinary_starts
+node_there v s there =
+    let h : Store = store v in
+    let inside : In h.starts s = stands_in heap_to v.words (chunks v.words) s (and_parts (is_there (h.cell s)) (not (is_internal h s)) there).0 in
+    ap (λ o. unwrap_or o blank)
+    (get-from_entries nat_cmp_total (map (λ t. (t, cells.node_of own_name h (body_at h t))) (ordinary_starts h)) s
+    ∙ find-listed (λ t. cells.node_of own_name h (body_at h t)) (ordinary_starts h) s (in_filter (is_ordinary h) h.starts s inside there))
 
-pub node_named : (s : Session) (start : ℕ) (v : Value) → IsHeap s.heap → IsOrdinary s.heap start → v ≡ Ref (address s.heap.base start) → node_of (graph_of s) v ≡ node_in s.heap start
-node_named s start v sound among is = ap (node_of (graph_of s)) is ∙ node_there s start sound among
+pub node_named : (v : View) (s : ℕ) (x : Value) → IsOrdinary v s → x ≡ Ref s → node_of (graph_of v) x ≡ node_in v s
+node_named v s x there is = ap (node_of (graph_of v)) is ∙ node_there v s there
 
 -- what the roots name
-pub nil_named : (s : Session) → IsHeap s.heap → (graph_of s).nil ≡ s.heap.nil
+pub nil_named : (v : View) → (graph_of v).nil ≡ first (store v) 0
 unfolding graph_of
-nil_named s sound = sym sound.nil_there
+nil_named v = refl
 
-pub no_named : (s : Session) → IsHeap s.heap → (graph_of s).no ≡ s.heap.no
+pub no_named : (v : View) → (graph_of v).no ≡ first (store v) 1
 unfolding graph_of
-no_named s sound = sym sound.no_there
+no_named v = refl
 
-pub yes_named : (s : Session) → IsHeap s.heap → (graph_of s).yes ≡ s.heap.yes
+pub yes_named : (v : View) → (graph_of v).yes ≡ first (store v) 2
 unfolding graph_of
-yes_named s sound = sym sound.yes_there
+yes_named v = refl
 
-pub special_named : (s : Session) → IsHeap s.heap → (graph_of s).special ≡ value_in s.heap s.heap.special
+pub special_named : (v : View) → (graph_of v).special ≡ value_in v v.special
 unfolding graph_of
-special_named s sound = ap (λ nil. read nil s.heap.special) (sym sound.nil_there)
+special_named v = refl
 
 -- the parts of an object's node
-pub class-node_at : (value : ℕ → Value) (words : List ℕ) (start : ℕ) → (node_at value words start).class ≡ class_of (header_at words start)
-unfolding node_at
-class-node_at value words start = refl
+pub class-node : (v : View) (s : ℕ) → (node_in v s).class ≡ (body_at (store v) s).class
+unfolding cells.node_of
+class-node v s = refl
 
-pub format-node_at : (value : ℕ → Value) (words : List ℕ) (start : ℕ) → (node_at value words start).format ≡ format_of (header_at words start)
-unfolding node_at
-format-node_at value words start = refl
+pub format-node : (v : View) (s : ℕ) → (node_in v s).format ≡ (body_at (store v) s).format
+unfolding cells.node_of
+format-node v s = refl
 
-pub readonly-node_at : (value : ℕ → Value) (words : List ℕ) (start : ℕ) → (node_at value words start).readonly ≡ ((fields_of (header_at words start)).readonly == 1)
-unfolding node_at
-readonly-node_at value words start = refl
+pub readonly-node : (v : View) (s : ℕ) → (node_in v s).readonly ≡ ((body_at (store v) s).readonly == 1)
+unfolding cells.node_of
+readonly-node v s = refl

@@ -11,8 +11,8 @@ use Rattle.std.specs.FinMap.{FinMap, get, len, insert, remove, empty, entries, f
 use Rattle.std.specs.FinMap.Entries.{below_all}
 use Rattle.spur_graph.specs.Graph.{Handle, handle_cmp}
 use Rattle.spur_graph.specs.Handles.{handles_total}
-use Rattle.spur_graph.specs.ImageGraph.{read}
-use Rattle.replay.specs.Sessions.{handle_values}
+use Rattle.spur_graph.specs.declared.answer.Value.{Value}
+use Rattle.spur_graph.specs.Heaps.{handle_values}
 
 -- two orders one after the other tell equal where both do
 both_equal : (r s : Ordering) → ordering_then r s ≡ Equal → (r ≡ Equal) × (s ≡ Equal)
@@ -76,34 +76,34 @@ module _ {K : Type 0} {R : K → K → Ordering} (total : IsTotalOrder R) {X Y :
       len-insert total others e.0 (f e.1) ∙ ap (λ o. cond (is_some o) (len others) (len others + 1)) absent ∙ more
 
 -- the value of a handle is that of its word
-pub get-handle_values : (nil : ℕ) (held : FinMap handle_cmp ℕ) (h : Handle) → get (handle_values nil held) h ≡ option_map (read nil) (get held h)
-get-handle_values nil held h =
-    get-from_entries handles_total (changed (read nil) (entries held)) h ∙ find-changed handle_cmp (read nil) (entries held) h ∙ ap (option_map (read nil)) (sym (get-entries held h))
+pub get-handle_values : (value : ℕ → Value) (held : FinMap handle_cmp ℕ) (h : Handle) → get (handle_values value held) h ≡ option_map value (get held h)
+get-handle_values value held h =
+    get-from_entries handles_total (changed value (entries held)) h ∙ find-changed handle_cmp value (entries held) h ∙ ap (option_map value) (sym (get-entries held h))
 
 -- there are as many values as words
-pub len-handle_values : (nil : ℕ) (held : FinMap handle_cmp ℕ) → len (handle_values nil held) ≡ len held
-len-handle_values nil held = len-changed handles_total (read nil) (entries held) (entries_sorted held) ∙ sym (len-entries held)
+pub len-handle_values : (value : ℕ → Value) (held : FinMap handle_cmp ℕ) → len (handle_values value held) ≡ len held
+len-handle_values value held = len-changed handles_total value (entries held) (entries_sorted held) ∙ sym (len-entries held)
 
-pub handle_values-empty : (nil : ℕ) → handle_values nil empty ≡ empty
-handle_values-empty nil = same_map handles_total handles_apart _ _ (λ h. get-handle_values nil empty h ∙ ap (option_map (read nil)) (get-empty handle_cmp h) ∙ sym (get-empty handle_cmp h))
+pub handle_values-empty : (value : ℕ → Value) → handle_values value empty ≡ empty
+handle_values-empty value = same_map handles_total handles_apart _ _ (λ h. get-handle_values value empty h ∙ ap (option_map value) (get-empty handle_cmp h) ∙ sym (get-empty handle_cmp h))
 
-pub handle_values-insert : (nil : ℕ) (held : FinMap handle_cmp ℕ) (h : Handle) (word : ℕ) → handle_values nil (insert held h word) ≡ insert (handle_values nil held) h (read nil word)
-handle_values-insert nil held h word = same_map handles_total handles_apart _ _ (λ q.
-    get-handle_values nil (insert held h word) q
-    ∙ ap (option_map (read nil)) (get-insert handles_total held h word q)
-    ∙ sym (chosen (read nil) (eq_by_cmp handle_cmp q h) word (get held q) (get (handle_values nil held) q) (get-handle_values nil held q))
-    ∙ sym (get-insert handles_total (handle_values nil held) h (read nil word) q))
+pub handle_values-insert : (value : ℕ → Value) (held : FinMap handle_cmp ℕ) (h : Handle) (word : ℕ) → handle_values value (insert held h word) ≡ insert (handle_values value held) h (value word)
+handle_values-insert value held h word = same_map handles_total handles_apart _ _ (λ q.
+    get-handle_values value (insert held h word) q
+    ∙ ap (option_map value) (get-insert handles_total held h word q)
+    ∙ sym (chosen value (eq_by_cmp handle_cmp q h) word (get held q) (get (handle_values value held) q) (get-handle_values value held q))
+    ∙ sym (get-insert handles_total (handle_values value held) h (value word) q))
 
 kept : {X Y : Type 0} (f : X → Y) (b : Bool) (o : Option X) (u : Option Y) → u ≡ option_map f o → cond b None u ≡ option_map f (cond b None o)
 kept f true o u is = refl
 kept f false o u is = is
 
-pub handle_values-remove : (nil : ℕ) (held : FinMap handle_cmp ℕ) (h : Handle) → handle_values nil (remove held h) ≡ remove (handle_values nil held) h
-handle_values-remove nil held h = same_map handles_total handles_apart _ _ (λ q.
-    get-handle_values nil (remove held h) q
-    ∙ ap (option_map (read nil)) (get-remove handles_total held h q)
-    ∙ sym (kept (read nil) (eq_by_cmp handle_cmp q h) (get held q) (get (handle_values nil held) q) (get-handle_values nil held q))
-    ∙ sym (get-remove handles_total (handle_values nil held) h q))
+pub handle_values-remove : (value : ℕ → Value) (held : FinMap handle_cmp ℕ) (h : Handle) → handle_values value (remove held h) ≡ remove (handle_values value held) h
+handle_values-remove value held h = same_map handles_total handles_apart _ _ (λ q.
+    get-handle_values value (remove held h) q
+    ∙ ap (option_map value) (get-remove handles_total held h q)
+    ∙ sym (kept value (eq_by_cmp handle_cmp q h) (get held q) (get (handle_values value held) q) (get-handle_values value held q))
+    ∙ sym (get-remove handles_total (handle_values value held) h q))
 
 same_key : (q h : Handle) → eq_by_cmp handle_cmp q h ≡ true → q ≡ h
 same_key q h is = handles_apart q h (equal_key (handle_cmp q h) is)

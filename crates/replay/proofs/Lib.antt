@@ -1,8 +1,8 @@
 pub mod Held
-pub mod Nodes
+pub mod Tables
+pub mod Leads
 pub mod Graphs
 pub mod Values
-pub mod Firsts
 pub mod Rows
 pub mod Doing
 pub mod Steps

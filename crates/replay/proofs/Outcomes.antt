@@ -1,118 +1,186 @@
 -- What a run of the program put, by its status.
-use Rattle.std.proofs.Common.{◌≡◌, ℕ, List, ◌++◌, take, Option, Some, None, Ok, Err, Result, refl, sym, subst, ap, ◌∙◌}
+use Rattle.std.proofs.Common.{◌≡◌, ℕ, List, take, Option, Some, None, Ok, Err, Result, refl, sym, subst, ap, ◌∙◌}
 use Rattle.std.specs.Option.{IfSome}
 use Rattle.spur_io.specs.Store.{FileMap, Puts}
 use Rattle.spur_io.specs.declared.sink.SinkFault.{SinkFault}
 use Rattle.spur_io.specs.declared.sink.SinkFault.TheVariants as sink
+use Rattle.spur_graph.specs.declared.limits.Limits.{Limits}
 use Rattle.spur_graph.specs.Bytes.{Text}
 use Rattle.spur_graph.specs.State.{State, Files}
-use Rattle.spur_graph.specs.Graph.{Graph}
-use Rattle.spur_graph.specs.Room.{no_room}
-use Rattle.spur_graph.specs.ImageGraph.{image_graph}
+use Rattle.spur_graph.specs.Step.{Renamed}
 use Rattle.spur_graph.specs.Lines.{lines_of, ended_lines_of}
-use Rattle.spur_graph.specs.Causes.{Cause, Short, Format, Unsupported, FirstCause, IsAccepted, cause_line}
-use Rattle.spur_heap.specs.declared.heap.Heap.{Heap}
+use Rattle.spur_graph.specs.ImageCauses.{Cause, Short, Format, HeaderSize, Base, Large, Segment, End, Object, Roots, Forwarder, Class, Slot, Special, FirstCause, IsAccepted, cause_line}
+use Rattle.spur_graph.specs.LoadedGraph.{loaded_graph, loaded_room}
+use Rattle.spur_graph.specs.Heaps.{View, Stands}
 use Rattle.image_load.specs.declared.error.LoadError.{LoadError}
 use Rattle.image_load.specs.declared.error.LoadError.TheVariants as errors
-use Rattle.image_load.specs.Loaded.{IsImageOf, IsCauseOf}
-use Rattle.replay.specs.declared.session.Session.{Session}
+use Rattle.image_load.specs.Loaded.{IsCauseOf}
 use Rattle.replay.specs.declared.runs.Stop.{Stop}
 use Rattle.replay.specs.declared.runs.Stop.TheVariants as stop
 use Rattle.replay.specs.declared.runs.Status.{Status}
 use Rattle.replay.specs.declared.runs.Status.TheVariants as status
-use Rattle.replay.specs.Sessions.{graph_of, state_of}
-use Rattle.replay.specs.Runs.{IsReplay, IsMisused, Outcome, done, usage, refused, unread_image, unread_script, too_long, cut_short, no_memory, no_memory_for_image, in_usage, in_refusal, in_answers, PutsAll, PutsPart, first_state, usage_line, most_script_bytes}
+use Rattle.replay.specs.Sessions.{SessionView, SameRun, graph_of, room_of, state_in}
+use Rattle.replay.specs.Runs.{IsReplay, IsMisused, IsKept, IsLeft, Judges, Outcome, done, usage, refused, unread_image, unread_script, too_long, cut_short, no_memory, no_memory_for_image, in_usage, in_refusal, in_answers, PutsAll, PutsPart, first_state, usage_line, most_script_bytes}
 use Rattle.replay.specs.Answered.{AnsweredPart, AnsweredAll, ScriptRun}
-use Rattle.replay.specs.Stops.{IsPut, IsRefusing, put_status, status_of}
+use Rattle.replay.specs.Stops.{IsPut, IsPutCause, IsRefusing, put_status, stop_status, status_of}
+use Rattle.replay.proofs.Graphs.{names_fresh}
 
--- all answers were put
-puts_all : (files : Files) (image script : Text) (lines : List Text) (before : List ℕ) (after : Option (List ℕ)) → IsAccepted (files image) → AnsweredAll (first_state files image script) files lines before after → PutsAll files image script lines before after
-puts_all files image script lines before after good all = record { accepted = good; answering = record { answers = all.answers; last = all.last; run = all.run; same_files = all.same_files }; put = all.put }
+-- a heap that stands for the graph and the room of an image is in a state that differs from the first in names alone
+started : (files : Files) (image script : Text) (limits : Limits) (v : View) → Stands v (loaded_graph (files image)) (loaded_room (files image) limits) → Renamed (first_state files image script limits) (state_in v files script)
+unfolding graph_of room_of
+started files image script limits v stands = record {
+  p = stands.place;
+  back = stands.back;
+  graph = stands.graph;
+  room = stands.figures;
+  files = refl;
+  script = refl;
+  next = names_fresh v stands.whole;
+}
 
--- a part of them was put
-puts_part : (files : Files) (image script : Text) (before : List ℕ) (after : Option (List ℕ)) → IsAccepted (files image) → AnsweredPart (first_state files image script) files (lines_of (files script)) before after → PutsPart files image script before after
-puts_part files image script before after good part =
-    record {
+module _ (words : List Text) (files : Files) (image script : Text) (limits : Limits) (before : List ℕ) (after : Option (List ℕ)) (kept : Option SessionView) where
+  module _ (start last : State) (good : IsAccepted (files image) limits) (named : Renamed (first_state files image script limits) start) where
+    -- all answers were put
+    abbrev puts_all : (lines : List Text) → AnsweredAll start last files lines before after → PutsAll files image script limits lines before after
+    puts_all lines all = record { accepted = good; answering = record { answers = all.answers; start = start; named = named; last = last; run = all.run; same_files = all.same_files }; put = all.put }
+
+    -- a part of them was put
+    puts_part : AnsweredPart start files (lines_of (files script)) before after → PutsPart files image script limits before after
+    puts_part part = record {
       accepted = good;
       lines = part.done;
       others = part.others;
       first = part.first_lines;
-      answering = record { answers = part.answers; last = part.last; run = part.run; same_files = part.same_files };
+      answering = record { answers = part.answers; start = start; named = named; last = part.last; run = part.run; same_files = part.same_files };
       size = part.size;
       put = part.put;
     }
 
--- the outcome of a script, by what stopped it
-script_outcome : (words : List Text) (files : Files) (image script : Text) (before : List ℕ) (after : Option (List ℕ)) (r : Result (Unit {0}) Stop) → IsReplay words image script → IsAccepted (files image)
-    → ScriptRun (first_state files image script) files (files script) before after r → Outcome words files before after (status_of r)
-script_outcome words files image script before after (Ok x) is good run = done is run.0 (puts_all files image script (lines_of (files script)) before after good run.1)
-script_outcome words files image script before after (Err stop.ReadFault) is good run =
-    unread_script is (record { size = run.0; whole = puts_all files image script (ended_lines_of (take run.0 (files script))) before after good run.1 })
-script_outcome words files image script before after (Err stop.WriteFault) is good run = cut_short (in_answers is (puts_part files image script before after good run))
-script_outcome words files image script before after (Err stop.Memory) is good run = no_memory (in_answers is (puts_part files image script before after good run))
-script_outcome words files image script before after (Err stop.TooLong) is good run = too_long is run.0 (puts_all files image script (ended_lines_of (take most_script_bytes (files script))) before after good run.1)
+    -- the outcome of a script, by what stopped it
+    script_outcome : (r : Result (Unit {0}) Stop) → IsReplay words image script limits → ScriptRun start last files (files script) before after r → IsKept kept files last → Outcome words files before after kept (status_of r)
+    script_outcome (Ok x) is run stays = done is run.0 (puts_all (lines_of (files script)) run.1) stays
+    script_outcome (Err stop.ReadFault) is run stays = unread_script is (record { size = run.0; whole = puts_all (ended_lines_of (take run.0 (files script))) run.1 })
+    script_outcome (Err stop.WriteFault) is run stays = cut_short (in_answers is (puts_part run))
+    script_outcome (Err stop.Memory) is run stays = no_memory (in_answers is (puts_part run))
+    script_outcome (Err stop.TooLong) is run stays = too_long is run.0 (puts_all (ended_lines_of (take most_script_bytes (files script))) run.1) stays
 
--- the same of a session of the image, where the bytes are told
-pub replayed : (told later : Option FileMap) (so_far after : Option (List ℕ)) (words : List Text) (image script : Text) (i : Heap) (s : Session) (r : Result (Unit {0}) Stop) (now : Status) → later ≡ told → IsReplay words image script
-    → IfSome told (λ store. IsAccepted (store image) × IsImageOf (store image) i) → ((bytes : List ℕ) → IsImageOf bytes i → graph_of s ≡ image_graph bytes)
-    → IfSome later (λ store. IfSome so_far (λ before. ScriptRun (state_of s store script) store (store script) before after r)) → now ≡ status_of r → IfSome told (λ store. IfSome so_far (λ before. Outcome words store before after now))
-replayed None later so_far after words image script i s r now same is loaded graph run ends = tt
-replayed (Some told) None so_far after words image script i s r now same is loaded graph run ends = cc
-replayed (Some told) (Some later) None after words image script i s r now same is loaded graph run ends = tt
-replayed (Some told) (Some later) (Some before) after words image script i s r now same is loaded graph run ends =
+  -- the line of a cause was put, or a part of it
+  put_refusal : (cause : Cause) (put : Result (Unit {0}) SinkFault) → IsReplay words image script limits → FirstCause (files image) limits cause → Puts (cause_line cause) (Some before) after put
+      → Outcome words files before after kept (put_status status.Refused put)
+  put_refusal cause (Ok x) is first bytes = refused cause is first bytes
+  put_refusal cause (Err sink.Failed) is first bytes = cut_short (in_refusal cause is first bytes)
+  put_refusal cause (Err sink.Memory) is first bytes = no_memory (in_refusal cause is first bytes)
+
+  cause_outcome : (cause : Cause) (faults faults_now : ℕ) (now : Status) → IsReplay words image script limits → FirstCause (files image) limits cause → IsPutCause cause (Some before) after faults faults_now now → Outcome words files before after kept now
+  cause_outcome cause faults faults_now now is first put =
+      let O : Status → Type 0 = λ st. Outcome words files before after kept st in
+      subst O (sym put.status) (put_refusal cause put.put is first put.bytes)
+
+  refusal_outcome : (error : LoadError) (faults faults_now : ℕ) (now : Status) → IsReplay words image script limits → IsCauseOf (files image) limits error → IsRefusing error (Some before) after faults faults_now now → Outcome words files before after kept now
+  refusal_outcome (errors.Short n) faults faults_now now is cause put = cause_outcome (Short n) faults faults_now now is cause put
+  refusal_outcome (errors.Format n) faults faults_now now is cause put = cause_outcome (Format n) faults faults_now now is cause put
+  refusal_outcome (errors.HeaderSize n) faults faults_now now is cause put = cause_outcome (HeaderSize n) faults faults_now now is cause put
+  refusal_outcome (errors.Base n) faults faults_now now is cause put = cause_outcome (Base n) faults faults_now now is cause put
+  refusal_outcome (errors.Large n) faults faults_now now is cause put = cause_outcome (Large n) faults faults_now now is cause put
+  refusal_outcome (errors.Segment n) faults faults_now now is cause put = cause_outcome (Segment n) faults faults_now now is cause put
+  refusal_outcome (errors.End n) faults faults_now now is cause put = cause_outcome (End n) faults faults_now now is cause put
+  refusal_outcome (errors.Object n) faults faults_now now is cause put = cause_outcome (Object n) faults faults_now now is cause put
+  refusal_outcome (errors.Roots n) faults faults_now now is cause put = cause_outcome (Roots n) faults faults_now now is cause put
+  refusal_outcome (errors.Forwarder n) faults faults_now now is cause put = cause_outcome (Forwarder n) faults faults_now now is cause put
+  refusal_outcome (errors.Class n) faults faults_now now is cause put = cause_outcome (Class n) faults faults_now now is cause put
+  refusal_outcome (errors.Slot n) faults faults_now now is cause put = cause_outcome (Slot n) faults faults_now now is cause put
+  refusal_outcome (errors.Special n) faults faults_now now is cause put = cause_outcome (Special n) faults faults_now now is cause put
+  refusal_outcome errors.ReadFault faults faults_now now is cause put =
+      let O : Status → Type 0 = λ st. Outcome words files before after kept st in
+      subst O (sym put.0) (unread_image is put.1.bytes)
+  refusal_outcome errors.Memory faults faults_now now is cause put =
+      let O : Status → Type 0 = λ st. Outcome words files before after kept st in
+      subst O (sym put.0) (no_memory_for_image is put.1.bytes)
+
+-- the outcome of a session of the image, where the bytes are told
+pub replayed : (told later : Option FileMap) (so_far after : Option (List ℕ)) (words : List Text) (image script : Text) (limits : Limits) (s t : SessionView) (kept : Option SessionView) (r : Result (Unit {0}) Stop) (now : Status) → later ≡ told
+    → IsReplay words image script limits → IfSome told (λ store. IsAccepted (store image) limits × Stands s.heap (loaded_graph (store image)) (loaded_room (store image) limits)) → s.script ≡ script → SameRun s t → kept ≡ Some t
+    → IfSome later (λ store. IfSome so_far (λ before. ScriptRun (state_in s.heap store script) (state_in t.heap store script) store (store script) before after r)) → now ≡ status_of r
+    → IfSome told (λ store. IfSome so_far (λ before. Outcome words store before after kept now))
+replayed None later so_far after words image script limits s t kept r now same is loaded begins keeps held run ends = tt
+replayed (Some told) None so_far after words image script limits s t kept r now same is loaded begins keeps held run ends = cc
+replayed (Some told) (Some later) None after words image script limits s t kept r now same is loaded begins keeps held run ends = tt
+replayed (Some told) (Some later) (Some before) after words image script limits s t kept r now same is loaded begins keeps held run ends =
     let one : later ≡ told = cc in
-    let R : FileMap → Type 0 = λ store. ScriptRun (state_of s store script) store (store script) before after r in
-    let here : ScriptRun (state_of s told script) told (told script) before after r = subst R one run in
-    let begin : graph_of s ≡ image_graph (told image) = graph (told image) loaded.1 in
-    let first : state_of s told script ≡ first_state told image script = ap (λ (g : Graph). let t : State = record { graph = g; room = no_room; files = told; script = script } in t) begin in
-    let S : State → Type 0 = λ state. ScriptRun state told (told script) before after r in
-    let O : Status → Type 0 = λ st. Outcome words told before after st in
-    subst O (sym ends) (script_outcome words told image script before after r is loaded.0 (subst S first here))
-
--- a line was put, or a part of it
-put_refusal : (words : List Text) (files : Files) (image script line : Text) (cause : Cause) (before : List ℕ) (after : Option (List ℕ)) (put : Result (Unit {0}) SinkFault) → line ≡ cause_line cause → IsReplay words image script
-    → FirstCause (files image) cause → Puts line (Some before) after put → Outcome words files before after (put_status status.Refused put)
-put_refusal words files image script line cause before after (Ok x) same is first bytes = refused cause is first (bytes ∙ ap (λ l. Some (before ++ l)) same)
-put_refusal words files image script line cause before after (Err sink.Failed) same is first bytes = cut_short (in_refusal cause is first (bytes.0, bytes.1 ∙ ap (λ l. Some (before ++ take bytes.0 l)) same))
-put_refusal words files image script line cause before after (Err sink.Memory) same is first bytes = no_memory (in_refusal cause is first (bytes.0, bytes.1 ∙ ap (λ l. Some (before ++ take bytes.0 l)) same))
-
-cause_outcome : (words : List Text) (files : Files) (image script line : Text) (cause : Cause) (before : List ℕ) (after : Option (List ℕ)) (faults faults_now : ℕ) (now : Status) → line ≡ cause_line cause → IsReplay words image script
-    → FirstCause (files image) cause → IsPut line (Some before) after faults faults_now status.Refused now → Outcome words files before after now
-cause_outcome words files image script line cause before after faults faults_now now same is first put =
-    let O : Status → Type 0 = λ st. Outcome words files before after st in
-    subst O (sym put.status) (put_refusal words files image script line cause before after put.put same is first put.bytes)
+    let R : FileMap → Type 0 = λ store. ScriptRun (state_in s.heap store script) (state_in t.heap store script) store (store script) before after r in
+    let here : ScriptRun (state_in s.heap told script) (state_in t.heap told script) told (told script) before after r = subst R one run in
+    let stays : IsKept kept told (state_in t.heap told script) = record { session = t; is = held; state = ap (state_in t.heap told) (keeps.0 ∙ begins) } in
+    let O : Status → Type 0 = λ st. Outcome words told before after kept st in
+    subst O (sym ends) (script_outcome words told image script limits before after kept (state_in s.heap told script) (state_in t.heap told script) loaded.0 (started told image script limits s.heap loaded.1) r is here stays)
 
 -- the outcome of an image that is not loaded
-pub not_loaded : (told : Option FileMap) (so_far after : Option (List ℕ)) (words : List Text) (image script : Text) (error : LoadError) (faults faults_now : ℕ) (now : Status) → IsReplay words image script → IfSome told (λ store. IsCauseOf (store image) error)
-    → IsRefusing error so_far after faults faults_now now → IfSome told (λ store. IfSome so_far (λ before. Outcome words store before after now))
-not_loaded None so_far after words image script error faults faults_now now is cause put = tt
-not_loaded (Some store) None after words image script error faults faults_now now is cause put = tt
-not_loaded (Some store) (Some before) after words image script (errors.Short n) faults faults_now now is cause put = cause_outcome words store image script _ (Short n) before after faults faults_now now refl is cause put
-not_loaded (Some store) (Some before) after words image script (errors.Format n) faults faults_now now is cause put = cause_outcome words store image script _ (Format n) before after faults faults_now now refl is cause put
-not_loaded (Some store) (Some before) after words image script errors.Unsupported faults faults_now now is cause put = cause_outcome words store image script _ Unsupported before after faults faults_now now refl is cause put
-not_loaded (Some store) (Some before) after words image script errors.ReadFault faults faults_now now is cause put =
-    let O : Status → Type 0 = λ st. Outcome words store before after st in
-    subst O (sym put.0) (unread_image is put.1.bytes)
-not_loaded (Some store) (Some before) after words image script errors.Memory faults faults_now now is cause put =
-    let O : Status → Type 0 = λ st. Outcome words store before after st in
-    subst O (sym put.0) (no_memory_for_image is put.1.bytes)
-
--- no memory for the session
-pub no_session : (told : Option FileMap) (so_far : Option (List ℕ)) (words : List Text) (image script : Text) → IsReplay words image script → IfSome told (λ store. IfSome so_far (λ before. Outcome words store before so_far status.Memory))
-no_session None so_far words image script is = tt
-no_session (Some store) None words image script is = tt
-no_session (Some store) (Some before) words image script is = no_memory_for_image is refl
+pub not_loaded : (told : Option FileMap) (so_far after : Option (List ℕ)) (words : List Text) (image script : Text) (limits : Limits) (kept : Option SessionView) (error : LoadError) (faults faults_now : ℕ) (now : Status) → IsReplay words image script limits
+    → IfSome told (λ store. IsCauseOf (store image) limits error) → IsRefusing error so_far after faults faults_now now → IfSome told (λ store. IfSome so_far (λ before. Outcome words store before after kept now))
+not_loaded None so_far after words image script limits kept error faults faults_now now is cause put = tt
+not_loaded (Some store) None after words image script limits kept error faults faults_now now is cause put = tt
+not_loaded (Some store) (Some before) after words image script limits kept error faults faults_now now is cause put = refusal_outcome words store image script limits before after kept error faults faults_now now is cause put
 
 -- the outcome of words in no known form
-put_usage : (words : List Text) (files : Files) (before : List ℕ) (after : Option (List ℕ)) (put : Result (Unit {0}) SinkFault) → IsMisused words → Puts usage_line (Some before) after put → Outcome words files before after (put_status status.Usage put)
-put_usage words files before after (Ok x) is bytes = usage is bytes
-put_usage words files before after (Err sink.Failed) is bytes = cut_short (in_usage is bytes)
-put_usage words files before after (Err sink.Memory) is bytes = no_memory (in_usage is bytes)
+put_usage : (words : List Text) (files : Files) (before : List ℕ) (after : Option (List ℕ)) (kept : Option SessionView) (put : Result (Unit {0}) SinkFault) → IsMisused words → Puts usage_line (Some before) after put
+    → Outcome words files before after kept (put_status status.Usage put)
+put_usage words files before after kept (Ok x) is bytes = usage is bytes
+put_usage words files before after kept (Err sink.Failed) is bytes = cut_short (in_usage is bytes)
+put_usage words files before after kept (Err sink.Memory) is bytes = no_memory (in_usage is bytes)
 
-pub misused : (told : Option FileMap) (so_far after : Option (List ℕ)) (words : List Text) (faults faults_now : ℕ) (now : Status) → IsMisused words → IsPut usage_line so_far after faults faults_now status.Usage now
-    → IfSome told (λ store. IfSome so_far (λ before. Outcome words store before after now))
-misused None so_far after words faults faults_now now is put = tt
-misused (Some store) None after words faults faults_now now is put = tt
-misused (Some store) (Some before) after words faults faults_now now is put =
-    let O : Status → Type 0 = λ st. Outcome words store before after st in
-    subst O (sym put.status) (put_usage words store before after put.put is put.bytes)
+pub misused : (told : Option FileMap) (so_far after : Option (List ℕ)) (words : List Text) (kept : Option SessionView) (faults faults_now : ℕ) (now : Status) → IsMisused words → IsPut usage_line so_far after faults faults_now status.Usage now
+    → IfSome told (λ store. IfSome so_far (λ before. Outcome words store before after kept now))
+misused None so_far after words kept faults faults_now now is put = tt
+misused (Some store) None after words kept faults faults_now now is put = tt
+misused (Some store) (Some before) after words kept faults faults_now now is put =
+    let O : Status → Type 0 = λ st. Outcome words store before after kept st in
+    subst O (sym put.status) (put_usage words store before after kept put.put is put.bytes)
+
+-- no session is kept, whatever the status is
+pub left_none : (now : Status) (kept : Option SessionView) → kept ≡ None → IsLeft now kept
+left_none status.Usage kept is = is
+left_none status.Refused kept is = is
+left_none status.Done kept is = tt
+left_none status.ReadFault kept is = tt
+left_none status.WriteFault kept is = tt
+left_none status.Memory kept is = tt
+left_none status.TooLong kept is = tt
+
+-- a run that was stopped may keep a session
+pub left_stop : (why : Stop) (now : Status) (kept : Option SessionView) → now ≡ stop_status why → IsLeft now kept
+left_stop stop.ReadFault now kept is = subst (λ st. IsLeft st kept) (sym is) tt
+left_stop stop.WriteFault now kept is = subst (λ st. IsLeft st kept) (sym is) tt
+left_stop stop.Memory now kept is = subst (λ st. IsLeft st kept) (sym is) tt
+left_stop stop.TooLong now kept is = subst (λ st. IsLeft st kept) (sym is) tt
+
+-- words that are replayed are in a known form
+module _ (words : List Text) (image script : Text) (limits : Limits) (is : IsReplay words image script limits) where
+  judged_put : (put : Result (Unit {0}) SinkFault) → Judges words (put_status status.Refused put)
+  judged_put (Ok x) = λ misused. misused image script limits is
+  judged_put (Err sink.Failed) = tt
+  judged_put (Err sink.Memory) = tt
+
+  judged_cause : (cause : Cause) (before after : Option (List ℕ)) (faults faults_now : ℕ) (now : Status) → IsPutCause cause before after faults faults_now now → Judges words now
+  judged_cause cause before after faults faults_now now put = subst (Judges words) (sym put.status) (judged_put put.put)
+
+  pub judged_refusal : (error : LoadError) (before after : Option (List ℕ)) (faults faults_now : ℕ) (now : Status) → IsRefusing error before after faults faults_now now → Judges words now
+  judged_refusal (errors.Short n) before after faults faults_now now put = judged_cause (Short n) before after faults faults_now now put
+  judged_refusal (errors.Format n) before after faults faults_now now put = judged_cause (Format n) before after faults faults_now now put
+  judged_refusal (errors.HeaderSize n) before after faults faults_now now put = judged_cause (HeaderSize n) before after faults faults_now now put
+  judged_refusal (errors.Base n) before after faults faults_now now put = judged_cause (Base n) before after faults faults_now now put
+  judged_refusal (errors.Large n) before after faults faults_now now put = judged_cause (Large n) before after faults faults_now now put
+  judged_refusal (errors.Segment n) before after faults faults_now now put = judged_cause (Segment n) before after faults faults_now now put
+  judged_refusal (errors.End n) before after faults faults_now now put = judged_cause (End n) before after faults faults_now now put
+  judged_refusal (errors.Object n) before after faults faults_now now put = judged_cause (Object n) before after faults faults_now now put
+  judged_refusal (errors.Roots n) before after faults faults_now now put = judged_cause (Roots n) before after faults faults_now now put
+  judged_refusal (errors.Forwarder n) before after faults faults_now now put = judged_cause (Forwarder n) before after faults faults_now now put
+  judged_refusal (errors.Class n) before after faults faults_now now put = judged_cause (Class n) before after faults faults_now now put
+  judged_refusal (errors.Slot n) before after faults faults_now now put = judged_cause (Slot n) before after faults faults_now now put
+  judged_refusal (errors.Special n) before after faults faults_now now put = judged_cause (Special n) before after faults faults_now now put
+  judged_refusal errors.ReadFault before after faults faults_now now put = subst (Judges words) (sym put.0) (λ misused. misused image script limits is)
+  judged_refusal errors.Memory before after faults faults_now now put = subst (Judges words) (sym put.0) tt
+
+  pub judged_stop : (why : Stop) (now : Status) → now ≡ stop_status why → Judges words now
+  judged_stop stop.ReadFault now ends = subst (Judges words) (sym ends) (λ misused. misused image script limits is)
+  judged_stop stop.WriteFault now ends = subst (Judges words) (sym ends) tt
+  judged_stop stop.Memory now ends = subst (Judges words) (sym ends) tt
+  judged_stop stop.TooLong now ends = subst (Judges words) (sym ends) (λ misused. misused image script limits is)

@@ -12,7 +12,7 @@ use Rattle.spur_graph.specs.Bytes.{Text}
 use Rattle.spur_graph.specs.Value.{is_immediate}
 use Rattle.spur_graph.specs.Node.{Node, is_raw}
 use Rattle.spur_graph.specs.Graph.{Graph, held}
-use Rattle.spur_graph.specs.Form.{Fetch, Copy, Store}
+use Rattle.spur_graph.specs.Form.{Fetch, Copy, Class, Size, Store}
 use Rattle.spur_graph.specs.State.{State}
 use Rattle.spur_graph.specs.Refusals.{Row, first, test, handles, raw_read, index_in}
 use Rattle.spur_graph.specs.Refused.{refused}
@@ -61,8 +61,14 @@ module _ (s : State) (k : ℕ) (h o : Text) (v : Value) (is : held s.graph k o �
   pub fetch_row : (i : ℕ) → refused s k (Fetch h o i) ≡ first (handles s.graph k h ∷ slot_row s.graph v i)
   fetch_row i = rw (is, or-false (is_immediate v)) refl
 
+  pub class_row : refused s k (Class h o) ≡ handles s.graph k h
+  class_row = rw (is) (alone (handles s.graph k h))
+
   pub copy_row : refused s k (Copy h o) ≡ handles s.graph k h
   copy_row = rw (is) (alone (handles s.graph k h))
+
+pub size_row : (s : State) (k : ℕ) (o : Text) (v : Value) → held s.graph k o ≡ Some v → refused s k (Size o) ≡ test (is_immediate v) r.Immediate
+size_row s k o v is = rw (is, or-false (is_immediate v)) (alone (test (is_immediate v) r.Immediate))
 
 pub store_row : (s : State) (k : ℕ) (o w : Text) (i : ℕ) (v u : Value) → held s.graph k o ≡ Some v → held s.graph k w ≡ Some u
     → refused s k (Store o i w) ≡ first (write_row s.graph v i ++ test (node_of s.graph v).readonly r.ReadOnly ∷ [])

@@ -74,12 +74,12 @@ abbrev pub KeepsFiles : (Files → Text → State) → Type 0
 KeepsFiles now = (files : Files) (script : Text) → (now files script).files ≡ files
 
 -- what was answered of a script, where the bytes are told
-abbrev pub Ran : Option FileMap → Option (List ℕ) → (Files → Text → State) → Text → Option (List ℕ) → Result (Unit {0}) Stop → Type 0
-Ran told start first script after r = IfSome told (λ store. IfSome start (λ before. ScriptRun (first store script) store (store script) before after r))
+abbrev pub Ran : Option FileMap → Option (List ℕ) → (Files → Text → State) → (Files → Text → State) → Text → Option (List ℕ) → Result (Unit {0}) Stop → Type 0
+Ran told start first last script after r = IfSome told (λ store. IfSome start (λ before. ScriptRun (first store script) (last store script) store (store script) before after r))
 
 -- the byte past the limit was read
 pub ran_too_long : (told later : Option FileMap) (start after : Option (List ℕ)) (first next : Files → Text → State) (script into kept : List ℕ) (at count taken : ℕ) → KeepsFiles next → later ≡ told → Reads later script at into (Ok count)
-    → at ≤ most_script_bytes → taken ≡ min count (most_script_bytes - at) → taken < count → ReadTo told start first next script (at + taken) kept after → Ran told start first script after (Err stop.TooLong)
+    → at ≤ most_script_bytes → taken ≡ min count (most_script_bytes - at) → taken < count → ReadTo told start first next script (at + taken) kept after → Ran told start first next script after (Err stop.TooLong)
 ran_too_long None later start after first next script into kept at count taken same_files same reads low is less so = tt
 ran_too_long (Some told) None start after first next script into kept at count taken same_files same reads low is less so = cc
 ran_too_long (Some told) (Some later) None after first next script into kept at count taken same_files same reads low is less so = tt
@@ -88,7 +88,7 @@ ran_too_long (Some told) (Some later) (Some before) after first next script into
     let G : FileMap → Type 0 = λ store. Gives (store script) at into count in
     let gives : Gives (told script) at into count = subst G one reads in
     let limit : at + taken ≡ most_script_bytes = omega arith in
-    let A : ℕ → Type 0 = λ n. AnsweredAll (first told script) told (ended_lines_of (take n (told script))) before after in
+    let A : ℕ → Type 0 = λ n. AnsweredAll (first told script) (next told script) told (ended_lines_of (take n (told script))) before after in
     (omega (arith, gives.within, length-drop at (told script)), subst A limit (whole_ended (first told script) (next told script) told (take (at + taken) (told script)) kept before after (same_files told script) so.answered))
 
 -- the whole file was read
@@ -106,25 +106,25 @@ read_all (Some told) (Some later) (Some before) so_far first now script into kep
     (omega arith, subst A (take_all at (told script) short) so.answered)
 
 -- every line was answered
-pub ran_done : (told : Option FileMap) (start so_far after : Option (List ℕ)) (first now : Files → Text → State) (script kept : List ℕ) (x : Unit {0})
+pub ran_done : (told : Option FileMap) (start so_far after : Option (List ℕ)) (first now last : Files → Text → State) (script kept : List ℕ) (x : Unit {0})
     → IfSome told (λ store. IfSome start (λ before. (length (store script) ≤ most_script_bytes) × Answered (first store script) (now store script) (store script) kept before so_far))
-    → AnswersEnd now kept so_far after → Ran told start first script after (Ok x)
-ran_done None start so_far after first now script kept x all answers = tt
-ran_done (Some told) None so_far after first now script kept x all answers = tt
-ran_done (Some told) (Some before) so_far after first now script kept x all answers = (all.0, answers (first told script) told script (told script) before all.1)
+    → AnswersEnd now last kept so_far after → Ran told start first last script after (Ok x)
+ran_done None start so_far after first now last script kept x all answers = tt
+ran_done (Some told) None so_far after first now last script kept x all answers = tt
+ran_done (Some told) (Some before) so_far after first now last script kept x all answers = (all.0, answers (first told script) told script (told script) before all.1)
 
 -- a refused put stops a run in its answers
-pub part_stopped : (first : State) (files : Files) (text : Text) (before : List ℕ) (after : Option (List ℕ)) (e : SinkFault) → AnsweredPart first files (lines_of text) before after → ScriptRun first files text before after (Err (put_stop e))
-part_stopped first files text before after sink.Failed part = part
-part_stopped first files text before after sink.Memory part = part
+pub part_stopped : (first last : State) (files : Files) (text : Text) (before : List ℕ) (after : Option (List ℕ)) (e : SinkFault) → AnsweredPart first files (lines_of text) before after → ScriptRun first last files text before after (Err (put_stop e))
+part_stopped first last files text before after sink.Failed part = part
+part_stopped first last files text before after sink.Memory part = part
 
 -- the put of the last line was refused
-pub ran_last : (told : Option FileMap) (start so_far after : Option (List ℕ)) (first now : Files → Text → State) (script kept : List ℕ) (e : SinkFault)
+pub ran_last : (told : Option FileMap) (start so_far after : Option (List ℕ)) (first now last : Files → Text → State) (script kept : List ℕ) (e : SinkFault)
     → IfSome told (λ store. IfSome start (λ before. (length (store script) ≤ most_script_bytes) × Answered (first store script) (now store script) (store script) kept before so_far))
-    → CutsEnd now kept so_far after → Ran told start first script after (Err (put_stop e))
-ran_last None start so_far after first now script kept e all cuts = tt
-ran_last (Some told) None so_far after first now script kept e all cuts = tt
-ran_last (Some told) (Some before) so_far after first now script kept e all cuts = part_stopped (first told script) told (told script) before after e (cuts (first told script) told script (told script) before all.1)
+    → CutsEnd now kept so_far after → Ran told start first last script after (Err (put_stop e))
+ran_last None start so_far after first now last script kept e all cuts = tt
+ran_last (Some told) None so_far after first now last script kept e all cuts = tt
+ran_last (Some told) (Some before) so_far after first now last script kept e all cuts = part_stopped (first told script) (last told script) told (told script) before after e (cuts (first told script) told script (told script) before all.1)
 
 -- the lines that are ended in a front are first lines
 front_part : (first : State) (files : Files) (text front : Text) (n : ℕ) (before : List ℕ) (after : Option (List ℕ)) → front ≡ take n text → AnsweredPart first files (ended_lines_of front) before after → AnsweredPart first files (lines_of text) before after
@@ -134,22 +134,22 @@ front_part first files text front n before after is part =
     subst Q (take-append-drop n text) (part_of first files (take n text) (drop n text) before after (subst P is part))
 
 -- a put of a line of a piece was refused
-pub ran_piece : (told later : Option FileMap) (start so_far after : Option (List ℕ)) (first now : Files → Text → State) (script into piece kept : List ℕ) (at count taken : ℕ) (e : SinkFault) → later ≡ told → Reads later script at into (Ok count)
-    → taken ≤ count → piece ≡ take taken into → ReadTo told start first now script at kept so_far → CutsPiece now kept piece so_far after → Ran told start first script after (Err (put_stop e))
-ran_piece None later start so_far after first now script into piece kept at count taken e same reads le is so cuts = tt
-ran_piece (Some told) None start so_far after first now script into piece kept at count taken e same reads le is so cuts = cc
-ran_piece (Some told) (Some later) None so_far after first now script into piece kept at count taken e same reads le is so cuts = tt
-ran_piece (Some told) (Some later) (Some before) so_far after first now script into piece kept at count taken e same reads le is so cuts =
+pub ran_piece : (told later : Option FileMap) (start so_far after : Option (List ℕ)) (first now last : Files → Text → State) (script into piece kept : List ℕ) (at count taken : ℕ) (e : SinkFault) → later ≡ told → Reads later script at into (Ok count)
+    → taken ≤ count → piece ≡ take taken into → ReadTo told start first now script at kept so_far → CutsPiece now kept piece so_far after → Ran told start first last script after (Err (put_stop e))
+ran_piece None later start so_far after first now last script into piece kept at count taken e same reads le is so cuts = tt
+ran_piece (Some told) None start so_far after first now last script into piece kept at count taken e same reads le is so cuts = cc
+ran_piece (Some told) (Some later) None so_far after first now last script into piece kept at count taken e same reads le is so cuts = tt
+ran_piece (Some told) (Some later) (Some before) so_far after first now last script into piece kept at count taken e same reads le is so cuts =
     let one : later ≡ told = cc in
     let G : FileMap → Type 0 = λ store. Gives (store script) at into count in
     let gives : Gives (told script) at into count = subst G one reads in
-    part_stopped (first told script) told (told script) before after e
+    part_stopped (first told script) (last told script) told (told script) before after e
     (front_part (first told script) told (told script) (take at (told script) ++ piece) (at + taken) before after (front_more (told script) into piece at count taken gives le is)
     (cuts (first told script) told script (take at (told script)) before so.answered))
 
 -- a read was refused
 pub ran_unread : (told : Option FileMap) (start so_far : Option (List ℕ)) (first now : Files → Text → State) (script kept : List ℕ) (at : ℕ) (e : FileFault) → KeepsFiles now → ReadTo told start first now script at kept so_far
-    → Ran told start first script so_far (Err (read_stop e))
+    → Ran told start first now script so_far (Err (read_stop e))
 ran_unread None start so_far first now script kept at e same_files so = tt
 ran_unread (Some told) None so_far first now script kept at e same_files so = tt
 ran_unread (Some told) (Some before) so_far first now script kept at file.Failed same_files so =

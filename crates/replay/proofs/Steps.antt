@@ -1,4 +1,4 @@
--- Steps of a session, under its own names.
+-- Steps over a heap, under its own names.
 use Rattle.std.proofs.Common.{◌≡◌, inl, inr, ◌≤◌, ◌<◌, ℕ, length, refl, subst, ap, None, Some, arith}
 use Rattle.std.specs.Prelude.{Result, Ok, Err, IfOk, IfErr, OnErr}
 use Rattle.std.specs.Result.{result_err}
@@ -10,21 +10,15 @@ use Rattle.spur_graph.specs.declared.answer.Refusal.TheVariants as r
 use Rattle.spur_graph.specs.Bytes.{Text}
 use Rattle.spur_graph.specs.Graph.{Graph}
 use Rattle.spur_graph.specs.Names.{Iso}
-use Rattle.spur_graph.specs.Room.{no_room}
 use Rattle.spur_graph.specs.Form.{Form}
-use Rattle.spur_graph.specs.State.{State, Files}
+use Rattle.spur_graph.specs.State.{State}
 use Rattle.spur_graph.specs.Refused.{refused}
 use Rattle.spur_graph.specs.Does.{Does}
 use Rattle.spur_graph.specs.Step.{longest_line, Reads, Renamed, Answers, Step, long, syntax, refusal, done}
-use Rattle.spur_heap.specs.Heaps.{IsHeap}
-use Rattle.replay.specs.declared.session.Session.{Session}
-use Rattle.replay.specs.Sessions.{graph_of, state_of, StandsFor}
-use Rattle.replay.specs.Commands.{Steps, Refuses, Obeys}
+use Rattle.spur_graph.specs.Heaps.{View, IsWhole}
+use Rattle.replay.specs.Sessions.{graph_of, state_in, StandsFor}
+use Rattle.replay.specs.Commands.{Replies, Steps, Refuses, Obeys}
 use Rattle.replay.proofs.Graphs.{names_fresh}
-
--- the state of a graph without room
-abbrev pub state_with : Graph → Files → Text → State
-state_with g files script = record { graph = g; room = no_room; files = files; script = script }
 
 -- a state is itself under its own names
 unrenamed : (s : State) → Iso s.graph s.graph (λ a. a) (λ a. a) → ((a : ℕ) → s.graph.next ≤ a → get s.graph.nodes a ≡ None) → Renamed s s
@@ -66,16 +60,19 @@ done_answer old new bytes line k form answer short stands reads does =
     let P : Text → Type 0 = λ text. Answers old text answer new in
     subst P (same_line bytes line short stands) (done k form short reads does.0 does.1)
 
--- the answers of a session, by what a command is answered
-module _ (old new : Session) (bytes : Text) (k : ℕ) (form : Form) (short : length bytes ≤ longest_line) (reads : Reads bytes k form) (same_names : (g : Graph) → Iso g g (λ a. a) (λ a. a)) (sound : IsHeap new.heap) where
-  pub done_steps : (result : Result Answer Refusal) → Refuses old k form (result_err result) → IfOk result (λ answer. Obeys old k form answer new) → IfOk result (λ answer. Steps old bytes answer new)
-  done_steps (Ok answer) passes does = λ files script line stands.
-      step_of (state_of old files script) (state_of new files script) line answer
-      (done_answer (state_of old files script) (state_of new files script) bytes line k form answer short stands reads (passes files script, does files script)) (same_names (graph_of new)) (names_fresh new sound)
-  done_steps (Err why) passes does = tt
+-- the answers over a heap, by what a command is answered
+module _ (old new : View) (bytes : Text) (k : ℕ) (form : Form) (short : length bytes ≤ longest_line) (reads : Reads bytes k form) where
+  pub done_replies : (result : Result Answer Refusal) → Refuses old k form (result_err result) → IfOk result (λ answer. Obeys old k form answer new) → IfOk result (λ answer. Replies old bytes answer new)
+  done_replies (Ok answer) passes does = λ files script line stands.
+      done_answer (state_in old files script) (state_in new files script) bytes line k form answer short stands reads (passes files script, does files script)
+  done_replies (Err why) passes does = tt
 
-  pub refused_steps : (result : Result Answer Refusal) → Refuses old k form (result_err result) → OnErr result (graph_of new ≡ graph_of old) → IfErr result (λ why. Steps old bytes (answers.Refused why) new)
-  refused_steps (Ok answer) refuses same = tt
-  refused_steps (Err why) refuses same = λ files script line stands.
-      step_of (state_of old files script) (state_of new files script) line (answers.Refused why)
-      (refused_answer (state_of old files script) (state_of new files script) bytes line k form why short stands reads (refuses files script) (ap (λ g. state_with g files script) same)) (same_names (graph_of new)) (names_fresh new sound)
+  pub refused_replies : (result : Result Answer Refusal) → Refuses old k form (result_err result) → OnErr result (new ≡ old) → IfErr result (λ why. Replies old bytes (answers.Refused why) new)
+  refused_replies (Ok answer) refuses same = tt
+  refused_replies (Err why) refuses same = λ files script line stands.
+      refused_answer (state_in old files script) (state_in new files script) bytes line k form why short stands reads (refuses files script) (ap (λ (v : View). state_in v files script) same)
+
+-- replies are steps where names are free
+pub replies_step : (old new : View) (bytes : Text) (answer : Answer) → ((g : Graph) → Iso g g (λ a. a) (λ a. a)) → IsWhole new → Replies old bytes answer new → Steps old bytes answer new
+replies_step old new bytes answer same_names whole replies = λ files script line stands.
+    step_of (state_in old files script) (state_in new files script) line answer (replies files script line stands) (same_names (graph_of new)) (names_fresh new whole)

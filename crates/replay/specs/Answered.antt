@@ -41,10 +41,9 @@ pub record AnsweredPart (first : State) (files : Files) (lines : List Text) (bef
   pub size : ℕ
   pub put : after ≡ Some (before ++ take size (answers_text answers))
 
--- these lines were answered, and the texts of their answers were put
-pub record AnsweredAll (first : State) (files : Files) (lines : List Text) (before : List ℕ) (after : Option (List ℕ)) : Type 0 where
+-- these lines were answered up to this state, and the texts of their answers were put
+pub record AnsweredAll (first last : State) (files : Files) (lines : List Text) (before : List ℕ) (after : Option (List ℕ)) : Type 0 where
   pub answers : List Answer
-  pub last : State
   pub run : Run first lines answers last
   pub same_files : last.files ≡ files
   pub put : after ≡ Some (before ++ answers_text answers)
@@ -64,17 +63,18 @@ CutsPiece old kept piece so_far after = (first : State) (files : Files) (script 
     → AnsweredPart first files (ended_lines_of (text ++ piece)) before after
 
 -- whatever was answered of a script so far, it is all of the script
-abbrev pub AnswersEnd : (Files → Text → State) → List ℕ → Option (List ℕ) → Option (List ℕ) → Type 0
-AnswersEnd old kept so_far after = (first : State) (files : Files) (script text : Text) (before : List ℕ) → Answered first (old files script) text kept before so_far → AnsweredAll first files (lines_of text) before after
+abbrev pub AnswersEnd : (Files → Text → State) → (Files → Text → State) → List ℕ → Option (List ℕ) → Option (List ℕ) → Type 0
+AnswersEnd old new kept so_far after = (first : State) (files : Files) (script text : Text) (before : List ℕ) → Answered first (old files script) text kept before so_far
+    → AnsweredAll first (new files script) files (lines_of text) before after
 
 -- the same where a put was refused
 abbrev pub CutsEnd : (Files → Text → State) → List ℕ → Option (List ℕ) → Option (List ℕ) → Type 0
 CutsEnd old kept so_far after = (first : State) (files : Files) (script text : Text) (before : List ℕ) → Answered first (old files script) text kept before so_far → AnsweredPart first files (lines_of text) before after
 
 -- what was answered of a script, by what stopped it
-abbrev pub ScriptRun : State → Files → Text → List ℕ → Option (List ℕ) → Result (Unit {0}) Stop → Type 0
-ScriptRun first files text before after (Ok x) = (length text ≤ most_script_bytes) × AnsweredAll first files (lines_of text) before after
-ScriptRun first files text before after (Err stop.ReadFault) = (size : ℕ) × AnsweredAll first files (ended_lines_of (take size text)) before after
-ScriptRun first files text before after (Err stop.WriteFault) = AnsweredPart first files (lines_of text) before after
-ScriptRun first files text before after (Err stop.Memory) = AnsweredPart first files (lines_of text) before after
-ScriptRun first files text before after (Err stop.TooLong) = (most_script_bytes < length text) × AnsweredAll first files (ended_lines_of (take most_script_bytes text)) before after
+abbrev pub ScriptRun : State → State → Files → Text → List ℕ → Option (List ℕ) → Result (Unit {0}) Stop → Type 0
+ScriptRun first last files text before after (Ok x) = (length text ≤ most_script_bytes) × AnsweredAll first last files (lines_of text) before after
+ScriptRun first last files text before after (Err stop.ReadFault) = (size : ℕ) × AnsweredAll first last files (ended_lines_of (take size text)) before after
+ScriptRun first last files text before after (Err stop.WriteFault) = AnsweredPart first files (lines_of text) before after
+ScriptRun first last files text before after (Err stop.Memory) = AnsweredPart first files (lines_of text) before after
+ScriptRun first last files text before after (Err stop.TooLong) = (most_script_bytes < length text) × AnsweredAll first last files (ended_lines_of (take most_script_bytes text)) before after

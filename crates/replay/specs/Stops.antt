@@ -1,6 +1,5 @@
 -- What stops a run, and what is put in place of answers.
-use Rattle.std.specs.Prelude.{◌≡◌, ℕ, List, [], ◌∷◌, ◌++◌, codes, Option, Result, Ok, Err}
-use Rattle.std.specs.Fmt.{decimal}
+use Rattle.std.specs.Prelude.{◌≡◌, ℕ, List, Option, Result, Ok, Err}
 use Rattle.spur_io.specs.declared.files.FileFault.{FileFault}
 use Rattle.spur_io.specs.declared.files.FileFault.TheVariants as file
 use Rattle.spur_io.specs.declared.sink.SinkFault.{SinkFault}
@@ -8,6 +7,7 @@ use Rattle.spur_io.specs.declared.sink.SinkFault.TheVariants as sink
 use Rattle.spur_io.specs.Store.{Puts}
 use Rattle.spur_io.specs.Causes.{SinkCause}
 use Rattle.spur_graph.specs.Bytes.{Text}
+use Rattle.spur_graph.specs.ImageCauses.{Cause, cause_line, Short, Format, HeaderSize, Base, Large, Segment, End, Object, Roots, Forwarder, Class, Slot, Special}
 use Rattle.image_load.specs.declared.error.LoadError.{LoadError}
 use Rattle.image_load.specs.declared.error.LoadError.TheVariants as errors
 use Rattle.replay.specs.declared.runs.Stop.{Stop}
@@ -55,10 +55,24 @@ pub record IsSilent (before after : Option (List ℕ)) (faults faults_now : ℕ)
   pub bytes : after ≡ before
   pub cause : faults_now ≡ faults
 
+-- the line of a cause is put
+abbrev pub IsPutCause : Cause → Option (List ℕ) → Option (List ℕ) → ℕ → ℕ → Status → Type 0
+IsPutCause cause before after faults faults_now now = IsPut (cause_line cause) before after faults faults_now status.Refused now
+
 -- what is put for an image that is not loaded, and the status then
 abbrev pub IsRefusing : LoadError → Option (List ℕ) → Option (List ℕ) → ℕ → ℕ → Status → Type 0
-IsRefusing (errors.Short n) before after faults faults_now now = IsPut (codes "image: short " ++ decimal n ++ 10 ∷ []) before after faults faults_now status.Refused now
-IsRefusing (errors.Format n) before after faults faults_now now = IsPut (codes "image: format " ++ decimal n ++ 10 ∷ []) before after faults faults_now status.Refused now
-IsRefusing errors.Unsupported before after faults faults_now now = IsPut (codes "image: unsupported\n") before after faults faults_now status.Refused now
-IsRefusing errors.ReadFault before after faults faults_now now = (now ≡ status.ReadFault) × IsSilent before after faults faults_now
-IsRefusing errors.Memory before after faults faults_now now = (now ≡ status.Memory) × IsSilent before after faults faults_now
+IsRefusing (errors.Short n) = IsPutCause (Short n)
+IsRefusing (errors.Format n) = IsPutCause (Format n)
+IsRefusing (errors.HeaderSize n) = IsPutCause (HeaderSize n)
+IsRefusing (errors.Base n) = IsPutCause (Base n)
+IsRefusing (errors.Large n) = IsPutCause (Large n)
+IsRefusing (errors.Segment n) = IsPutCause (Segment n)
+IsRefusing (errors.End n) = IsPutCause (End n)
+IsRefusing (errors.Object n) = IsPutCause (Object n)
+IsRefusing (errors.Roots n) = IsPutCause (Roots n)
+IsRefusing (errors.Forwarder n) = IsPutCause (Forwarder n)
+IsRefusing (errors.Class n) = IsPutCause (Class n)
+IsRefusing (errors.Slot n) = IsPutCause (Slot n)
+IsRefusing (errors.Special n) = IsPutCause (Special n)
+IsRefusing errors.ReadFault = λ before after faults faults_now now. (now ≡ status.ReadFault) × IsSilent before after faults faults_now
+IsRefusing errors.Memory = λ before after faults faults_now now. (now ≡ status.Memory) × IsSilent before after faults faults_now

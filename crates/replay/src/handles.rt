@@ -1,62 +1,53 @@
-// The handles of a session.
+// The handles of a heap.
 ghost use Rattle.std.specs.Prelude.{◌≡◌, [], ◌∷◌, Some, None, IfOk, OnOk, OnErr};
 ghost use Rattle.std.specs.Result.{result_err};
 ghost use Rattle.spur_graph.specs.Graph.{held, bind, unbind};
 ghost use Rattle.spur_graph.specs.Refusals.{unknown, handles};
-ghost use Rattle.spur_heap.specs.Heaps.{IsGoodIn, value_in};
+ghost use Rattle.spur_heap.specs.Views.{IsGood};
+ghost use Rattle.replay.specs.Sessions.{graph_of, value_in};
+ghost use Rattle.replay.specs.Commands.{Becomes};
 
-use crate::session::Session;
-use handle_table::{MOST_HANDLES, held_before, held_or_bound};
+use handle_table::MOST_HANDLES;
 use spur_graph::{HandleName, Refusal};
+use spur_heap::Heap;
 
-impl Session {
-    ghost use Rattle.replay.specs.Sessions.{graph_of, IsSession};
+/// The word of a handle.
+pub(crate) fn held(heap: &Heap, mutator: u8, name: &HandleName) -> Result<u64, Refusal>
+    ensures refusal { unknown (graph_of heap.now) mutator (name.now.bytes ∷ []) ≡ result_err result }
+    ensures value { IfOk result (λ word. held (graph_of heap.now) mutator name.now.bytes ≡ Some (value_in heap.now word)) }
+    ensures good { IfOk result (IsGood heap.now) }
+{
+    heap.handle(mutator, name).ok_or(Refusal::Unknown)
+}
 
-    /// The word of a handle.
-    pub(crate) fn held(&self, mutator: u8, name: &HandleName) -> Result<u64, Refusal>
-        requires { IsSession self.now }
-        ensures refusal { unknown (graph_of self.now) mutator (name.now.bytes ∷ []) ≡ result_err result }
-        ensures value { IfOk result (λ word. held (graph_of self.now) mutator name.now.bytes ≡ Some (value_in self.now.heap word)) }
-        ensures good { IfOk result (IsGoodIn self.now.heap) }
-    {
-        self.handles.get(mutator, name).ok_or(Refusal::Unknown)
+/// Refuses to bind a handle that is not held where no more can be.
+pub(crate) fn room_for(heap: &Heap, mutator: u8, name: &HandleName) -> Result<(), Refusal>
+    ensures { handles (graph_of heap.now) mutator name.now.bytes ≡ result_err result }
+{
+    if heap.handle(mutator, name).is_none() && heap.handle_count() >= MOST_HANDLES {
+        return Err(Refusal::Handles);
     }
+    Ok(())
+}
 
-    /// Refuses to bind a handle that is not held where no more can be.
-    pub(crate) fn room_for(&self, mutator: u8, name: &HandleName) -> Result<(), Refusal>
-        ensures { handles (graph_of self.now) mutator name.now.bytes ≡ result_err result }
-    {
-        if self.handles.get(mutator, name).is_none() && self.handles.len() >= MOST_HANDLES {
-            return Err(Refusal::Handles);
-        }
+/// Binds a handle to a word.
+pub(crate) fn bind(heap: &mut Heap, mutator: u8, name: &HandleName, word: u64)
+    requires good { IsGood heap.old word }
+    requires room { handles (graph_of heap.old) mutator name.now.bytes ≡ None }
+    ensures bound { Becomes heap.old heap.new (bind (graph_of heap.old) mutator name.now.bytes (value_in heap.old word)) }
+{
+    let _bound = heap.bind(mutator, *name, word);
+}
+
+/// Binds a handle no longer.
+pub(crate) fn unbind(heap: &mut Heap, mutator: u8, name: &HandleName) -> Result<(), Refusal>
+    ensures refusal { unknown (graph_of heap.old) mutator (name.now.bytes ∷ []) ≡ result_err result }
+    ensures unbound { OnOk result (Becomes heap.old heap.new (unbind (graph_of heap.old) mutator name.now.bytes)) }
+    ensures same { OnErr result (heap.new ≡ heap.old) }
+{
+    if heap.unbind(mutator, name) {
         Ok(())
-    }
-
-    /// Binds a handle to a word.
-    pub(crate) fn bind(&mut self, mutator: u8, name: &HandleName, word: u64)
-        requires sound { IsSession self.old }
-        requires good { IsGoodIn self.old.heap word }
-        requires room { handles (graph_of self.old) mutator name.now.bytes ≡ None }
-        ensures bound { graph_of self.new ≡ bind (graph_of self.old) mutator name.now.bytes (value_in self.old.heap word) }
-        ensures sound { IsSession self.new }
-    {
-        held_or_bound();
-        let _bound = self.handles.bind(mutator, *name, word);
-    }
-
-    /// Binds a handle no longer.
-    pub(crate) fn unbind(&mut self, mutator: u8, name: &HandleName) -> Result<(), Refusal>
-        requires { IsSession self.old }
-        ensures refusal { unknown (graph_of self.old) mutator (name.now.bytes ∷ []) ≡ result_err result }
-        ensures unbound { OnOk result (graph_of self.new ≡ unbind (graph_of self.old) mutator name.now.bytes) }
-        ensures same { OnErr result (graph_of self.new ≡ graph_of self.old) }
-        ensures sound { IsSession self.new }
-    {
-        held_before();
-        if self.handles.unbind(mutator, name) {
-            Ok(())
-        } else {
-            Err(Refusal::Unknown)
-        }
+    } else {
+        Err(Refusal::Unknown)
     }
 }

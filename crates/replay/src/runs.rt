@@ -1,20 +1,24 @@
 // The top call: an image is loaded, and the lines of a script are answered while it is read.
-ghost use Rattle.std.specs.Prelude.{◌≡◌, ◌≤◌, ◌∷◌, ◌++◌, [], List, length, map, true, false, OnOk, OnErr, IfSome, IfNone, None};
+ghost use Rattle.std.specs.Prelude.{◌≡◌, ◌≤◌, ◌∷◌, ◌++◌, [], ℕ, List, codes, length, map, true, false, OnOk, OnErr, IfSome, IfNone, Some, None};
 ghost use Rattle.std.specs.Fmt.{decimal};
 ghost use Rattle.std.specs.String.{string_bytes};
 ghost use Rattle.spur_io.specs.Causes.{SinkCause};
 ghost use Rattle.spur_graph.specs.Bytes.{Text};
 ghost use Rattle.spur_graph.specs.State.{Files};
-ghost use Rattle.replay.specs.Sessions.{IsSession, StandsFor, state_of};
-ghost use Rattle.replay.specs.Runs.{IsPath, IsReplay, IsMisused, Outcome, Judges, Counts};
+ghost use Rattle.spur_graph.specs.Words.{number_in};
+ghost use Rattle.image_load.specs.Loaded.{AreLimits};
+ghost use Rattle.replay.specs.declared.runs.Status.TheVariants.{Refused};
+ghost use Rattle.replay.specs.Sessions.{SameRun, StandsFor, state_in};
+ghost use Rattle.replay.specs.Runs.{IsPath, IsRoom, AsksRoom, IsCall, IsReplay, IsMisused, Outcome, Judges, Counts, IsLeft};
 ghost use Rattle.replay.specs.Answered.{AnswersLine, AnswersBehind, AnswersPiece, CutsPiece, AnswersEnd, CutsEnd, ScriptRun};
 ghost use Rattle.replay.specs.Stops.{IsPut, IsRefusing, status_of};
 
 use crate::lines::{OpenLine, cut_line};
 use crate::session::Session;
 use arrayvec::ArrayVec;
-use image_load::{LoadError, load};
-use script_text::write_answer;
+use image_load::LoadError;
+use script_text::{number_of, write_answer};
+use spur_graph::Limits;
 use spur_io::{FileFault, Files, Sink, SinkFault};
 use std::alloc::Global;
 
@@ -23,6 +27,15 @@ const MOST_SCRIPT_BYTES: u64 = 1 << 32;
 
 /// Bytes of the script that are read at once.
 const PIECE_BYTES: usize = 4_096;
+
+/// Words of room where no option tells them.
+const DEFAULT_ROOM: usize = 1 << 20;
+
+/// The most words of room.
+const MOST_ROOM: usize = 1 << 26;
+
+/// Entries of the table that keeps first fields aside during a compaction.
+const SAVED_FIELDS: usize = 4_096;
 
 const USAGE: &str =
     "usage: spur replay IMAGE SCRIPT [--eden W] [--survivor W] [--room W] [--saved W] | spur drill START LINES\n";
@@ -44,6 +57,13 @@ pub enum Status {
     Memory,
     /// The script has more than 2^32 bytes.
     TooLong,
+}
+
+/// What the words of the command line ask for.
+struct Request<'a> {
+    image: &'a str,
+    script: &'a str,
+    limits: Limits,
 }
 
 /// Why the lines of a script are not all answered.
@@ -101,12 +121,11 @@ impl From<Stop> for Status {
 
 /// Answers a line, and puts the answer.
 fn answer_line<K: Sink>(session: &mut Session, line: &[u8], out: &mut K) -> Result<(), SinkFault>
-    requires { IsSession session.old }
-    ensures answer { (files : Files) (script text : Text) → StandsFor line.now text → AnswersLine (state_of session.old files script) (state_of session.new files script) text (K.so_far out.old) (K.so_far out.new) result }
+    ensures answer { (files : Files) (script text : Text) → StandsFor line.now text → AnswersLine (state_in session.old.heap files script) (state_in session.new.heap files script) text (K.so_far out.old) (K.so_far out.new) result }
     ensures cause { SinkCause (K.fault_count out.old) (K.fault_count out.new) result }
-    ensures sound { IsSession session.new }
+    ensures run { SameRun session.old session.new }
 {
-    let answer = session.line(line);
+    let answer = session.answer(line);
     let mut text = ArrayVec::new();
     write_answer(&answer, &mut text);
     out.put(text.as_slice())
@@ -119,11 +138,10 @@ fn answer_ended<K: Sink>(
     line: &[u8],
     out: &mut K,
 ) -> Result<(), SinkFault>
-    requires { IsSession session.old }
-    ensures answer { AnswersBehind (state_of session.old) (state_of session.new) open_line.old line.now (K.so_far out.old) (K.so_far out.new) result }
+    ensures answer { AnswersBehind (state_in session.old.heap) (state_in session.new.heap) open_line.old line.now (K.so_far out.old) (K.so_far out.new) result }
     ensures none { open_line.new ≡ [] }
     ensures cause { SinkCause (K.fault_count out.old) (K.fault_count out.new) result }
-    ensures sound { IsSession session.new }
+    ensures run { SameRun session.old session.new }
 {
     if open_line.is_empty() {
         return answer_line(session, line, out);
@@ -141,11 +159,10 @@ fn answer_piece<K: Sink>(
     piece: &[u8],
     out: &mut K,
 ) -> Result<(), SinkFault>
-    requires { IsSession session.old }
-    ensures answered { OnOk result (AnswersPiece (state_of session.old) (state_of session.new) open_line.old open_line.new piece.now (K.so_far out.old) (K.so_far out.new)) }
-    ensures part { OnErr result (CutsPiece (state_of session.old) open_line.old piece.now (K.so_far out.old) (K.so_far out.new)) }
+    ensures answered { OnOk result (AnswersPiece (state_in session.old.heap) (state_in session.new.heap) open_line.old open_line.new piece.now (K.so_far out.old) (K.so_far out.new)) }
+    ensures part { OnErr result (CutsPiece (state_in session.old.heap) open_line.old piece.now (K.so_far out.old) (K.so_far out.new)) }
     ensures cause { SinkCause (K.fault_count out.old) (K.fault_count out.new) result }
-    ensures sound { IsSession session.new }
+    ensures run { SameRun session.old session.new }
 {
     let mut rest = piece;
     'lines: while let Some((line, behind)) = cut_line(rest) {
@@ -162,10 +179,10 @@ fn answer_last<K: Sink>(
     open_line: &OpenLine,
     out: &mut K,
 ) -> Result<(), SinkFault>
-    requires { IsSession session.old }
-    ensures answered { OnOk result (AnswersEnd (state_of session.old) open_line.now (K.so_far out.old) (K.so_far out.new)) }
-    ensures part { OnErr result (CutsEnd (state_of session.old) open_line.now (K.so_far out.old) (K.so_far out.new)) }
+    ensures answered { OnOk result (AnswersEnd (state_in session.old.heap) (state_in session.new.heap) open_line.now (K.so_far out.old) (K.so_far out.new)) }
+    ensures part { OnErr result (CutsEnd (state_in session.old.heap) open_line.now (K.so_far out.old) (K.so_far out.new)) }
     ensures cause { SinkCause (K.fault_count out.old) (K.fault_count out.new) result }
+    ensures run { SameRun session.old session.new }
 {
     if open_line.is_empty() {
         return Ok(());
@@ -180,11 +197,11 @@ fn answer_script<F: Files, K: Sink>(
     script: &str,
     out: &mut K,
 ) -> Result<(), Stop>
-    requires { IsSession session.old }
-    ensures outcome { IfSome (F.told files.old) (λ store. IfSome (K.so_far out.old) (λ before. ScriptRun (state_of session.old store script.now) store (store script.now) before (K.so_far out.new) result)) }
+    ensures outcome { IfSome (F.told files.old) (λ store. IfSome (K.so_far out.old) (λ before. ScriptRun (state_in session.old.heap store script.now) (state_in session.new.heap store script.now) store (store script.now) before (K.so_far out.new) result)) }
     ensures counts { Counts (F.read_count files.old) (F.read_count files.new) (K.fault_count out.old) (K.fault_count out.new) (status_of result) }
     ensures writes { F.write_count files.new ≡ F.write_count files.old }
     ensures same { F.told files.new ≡ F.told files.old }
+    ensures run { SameRun session.old session.new }
 {
     let mut open_line = OpenLine::new();
     let mut piece = [0; PIECE_BYTES];
@@ -217,17 +234,27 @@ fn put_line<K: Sink>(out: &mut K, line: &[u8], status: Status) -> Status
     }
 }
 
-/// A line that ends in a number.
-fn numbered_line(label: &str, n: u64) -> ArrayVec<u8, 64>
-    requires { length label.now ≤ 20 }
-    ensures { result.items ≡ label.now ++ decimal n ++ 10 ∷ [] }
+/// The line of a cause, whose label ends in a space.
+fn cause_line(label: &str, n: u128) -> ArrayVec<u8, 64>
+    requires { length label.now ≤ 12 }
+    ensures { result.items ≡ codes "image: " ++ ((label.now ++ decimal n) ++ 10 ∷ []) }
 {
     let mut digits = itoa::Buffer::new();
     let mut line = ArrayVec::new();
+    let _image_fits = line.try_extend_from_slice(b"image: ");
     let _label_fits = line.try_extend_from_slice(label.as_bytes());
     let _digits_fit = line.try_extend_from_slice(digits.format(n).as_bytes());
     line.push(b'\n');
     line
+}
+
+/// Puts the line of a cause.
+fn put_cause<K: Sink>(label: &str, n: u128, out: &mut K) -> Status
+    requires { length label.now ≤ 12 }
+    ensures { IsPut (codes "image: " ++ ((label.now ++ decimal n) ++ 10 ∷ [])) (K.so_far out.old) (K.so_far out.new) (K.fault_count out.old) (K.fault_count out.new) Refused result }
+{
+    let line = cause_line(label, n);
+    put_line(out, line.as_slice(), Status::Refused)
 }
 
 /// Puts the line of an image that is not loaded.
@@ -235,42 +262,50 @@ fn refuse<K: Sink>(error: LoadError, out: &mut K) -> Status
     ensures { IsRefusing error (K.so_far out.old) (K.so_far out.new) (K.fault_count out.old) (K.fault_count out.new) result }
 {
     match error {
-        LoadError::Short(count) => {
-            let line = numbered_line("image: short ", count);
-            put_line(out, line.as_slice(), Status::Refused)
-        }
-        LoadError::Format(format) => {
-            let line = numbered_line("image: format ", format as u64);
-            put_line(out, line.as_slice(), Status::Refused)
-        }
-        LoadError::Unsupported => put_line(out, b"image: unsupported\n", Status::Refused),
+        LoadError::Short(n) => put_cause("short ", n as u128, out),
+        LoadError::Format(n) => put_cause("format ", n as u128, out),
+        LoadError::HeaderSize(n) => put_cause("header ", n as u128, out),
+        LoadError::Base(n) => put_cause("base ", n as u128, out),
+        LoadError::Large(n) => put_cause("large ", n, out),
+        LoadError::Segment(n) => put_cause("segment ", n as u128, out),
+        LoadError::End(n) => put_cause("end ", n as u128, out),
+        LoadError::Object(n) => put_cause("object ", n as u128, out),
+        LoadError::Roots(n) => put_cause("roots ", n as u128, out),
+        LoadError::Forwarder(n) => put_cause("forwarder ", n as u128, out),
+        LoadError::Class(n) => put_cause("class ", n as u128, out),
+        LoadError::Slot(n) => put_cause("slot ", n as u128, out),
+        LoadError::Special(n) => put_cause("special ", n as u128, out),
         LoadError::ReadFault => Status::ReadFault,
         LoadError::Memory => Status::Memory,
     }
 }
 
-/// Replays a script on an image.
+/// Replays a script on an image, and keeps the session if it starts.
 fn replay<F: Files, K: Sink>(
     alloc: Global,
     image: &str,
     script: &str,
+    limits: Limits,
     files: &mut F,
     out: &mut K,
+    kept: &mut Option<Session>,
 ) -> Status
-    ensures outcome { (words : List Text) → IsReplay words image.now script.now → IfSome (F.told files.old) (λ store. IfSome (K.so_far out.old) (λ before. Outcome words store before (K.so_far out.new) result)) }
-    ensures judges { (words : List Text) → IsReplay words image.now script.now → Judges words result }
+    requires limits { AreLimits limits }
+    requires none { kept.old ≡ None }
+    ensures outcome { (words : List Text) → IsReplay words image.now script.now limits → IfSome (F.told files.old) (λ store. IfSome (K.so_far out.old) (λ before. Outcome words store before (K.so_far out.new) kept.new result)) }
+    ensures judges { (words : List Text) → IsReplay words image.now script.now limits → Judges words result }
     ensures counts { Counts (F.read_count files.old) (F.read_count files.new) (K.fault_count out.old) (K.fault_count out.new) result }
     ensures writes { F.write_count files.new ≡ F.write_count files.old }
     ensures same { F.told files.new ≡ F.told files.old }
+    ensures kept { IsLeft result kept.new }
 {
-    let heap = match load(alloc, files, image) {
-        Ok(heap) => heap,
+    let mut session = match Session::start(alloc, files, image, script, limits) {
+        Ok(session) => session,
         Err(error) => return refuse(error, out),
     };
-    let Ok(mut session) = Session::new(alloc, heap) else {
-        return Status::Memory;
-    };
-    match answer_script(&mut session, files, script, out) {
+    let answered = answer_script(&mut session, files, script, out);
+    *kept = Some(session);
+    match answered {
         Ok(()) => Status::Done,
         Err(stop) => stop.into(),
     }
@@ -289,8 +324,8 @@ fn is_path(name: &str) -> bool
 
 /// The image and the script of the words `replay IMAGE SCRIPT`; none where the words are others.
 fn paths_of(words: &[String]) -> Option<(&str, &str)>
-    ensures some { IfSome result (λ paths. IsReplay (map string_bytes words.now) paths.0.now paths.1.now) }
-    ensures none { IfNone result (IsMisused (map string_bytes words.now)) }
+    ensures some { IfSome result (λ paths. IsCall (map string_bytes words.now) paths.0.now paths.1.now) }
+    ensures none { IfNone result ((image script : Text) → IsCall (map string_bytes words.now) image script → ⊥) }
 {
     match words {
         [command, image, script]
@@ -301,10 +336,59 @@ fn paths_of(words: &[String]) -> Option<(&str, &str)>
     }
 }
 
+/// The words of room that a text tells; none where it tells no number, 1, or too great a one.
+fn told_room(text: &str) -> Option<usize>
+    ensures some { IfSome result (λ room. (number_in text.now ≡ Some room) × IsRoom room) }
+    ensures none { IfNone result ((room : ℕ) → number_in text.now ≡ Some room → IsRoom room → ⊥) }
+{
+    let room = number_of(text.as_bytes())?;
+    if room == 1 || room > MOST_ROOM as u128 {
+        return None;
+    }
+    Some(room as usize)
+}
+
+/// The words of room that options ask for; none where there are other words among them.
+fn room_of(options: &[String]) -> Option<usize>
+    ensures some { IfSome result (AsksRoom (map string_bytes options.now)) }
+    ensures none { IfNone result ((room : ℕ) → AsksRoom (map string_bytes options.now) room → ⊥) }
+{
+    match options {
+        [] => Some(DEFAULT_ROOM),
+        [option, room] if option.as_str() == "--room" => told_room(room.as_str()),
+        _ => None,
+    }
+}
+
+/// What the words `replay IMAGE SCRIPT` and their options ask for; none where the words are others.
+fn request_of(words: &[String]) -> Option<Request>
+    ensures some { IfSome result (λ r. IsReplay (map string_bytes words.now) r.image.now r.script.now r.limits) }
+    ensures limits { IfSome result (λ r. AreLimits r.limits) }
+    ensures none { IfNone result (IsMisused (map string_bytes words.now)) }
+{
+    let (paths, options) = words.split_at(words.len().min(3));
+    let (image, script) = paths_of(paths)?;
+    let room = room_of(options)?;
+    let limits = Limits {
+        eden: 0,
+        survivor: 0,
+        room,
+        saved: SAVED_FIELDS,
+    };
+    Some(Request {
+        image,
+        script,
+        limits,
+    })
+}
+
 /// Runs the program with these words, which are without its name: `replay IMAGE SCRIPT` loads the image and answers the script's
 /// lines, one by one, while it reads the script. Each answer is put before more of the script is read.
 ///
-/// No session is kept.
+/// Behind these words may stand `--room` and a number of words, 0 or 2 to 2^26: as much room as the heap has for further objects, 2^20
+/// words where it is not told.
+///
+/// The session is kept as the lines have left it, if the image was loaded.
 pub fn run<F: Files, K: Sink>(
     alloc: Global,
     words: &[String],
@@ -313,15 +397,21 @@ pub fn run<F: Files, K: Sink>(
     kept: &mut Option<Session>,
 ) -> Status
     requires { kept.old ≡ None }
-    ensures outcome { IfSome (F.told files.old) (λ store. IfSome (K.so_far out.old) (λ before. Outcome (map string_bytes words.now) store before (K.so_far out.new) result)) }
+    ensures outcome { IfSome (F.told files.old) (λ store. IfSome (K.so_far out.old) (λ before. Outcome (map string_bytes words.now) store before (K.so_far out.new) kept.new result)) }
     ensures judges { Judges (map string_bytes words.now) result }
     ensures counts { Counts (F.read_count files.old) (F.read_count files.new) (K.fault_count out.old) (K.fault_count out.new) result }
     ensures writes { F.write_count files.new ≡ F.write_count files.old }
     ensures same { F.told files.new ≡ F.told files.old }
-    ensures kept { kept.new ≡ None }
+    ensures kept { IsLeft result kept.new }
 {
-    match paths_of(words) {
-        Some((image, script)) => replay(alloc, image, script, files, out),
+    match request_of(words) {
+        Some(
+            Request {
+                image,
+                script,
+                limits,
+            },
+        ) => replay(alloc, image, script, limits, files, out, kept),
         None => put_line(out, USAGE.as_bytes(), Status::Usage),
     }
 }

@@ -1,64 +1,156 @@
 // A session, and what its lines are answered.
-ghost use Rattle.std.specs.Prelude.{◌≡◌, ℕ, List, IfOk, IfErr};
+ghost use Rattle.std.specs.Prelude.{◌≡◌, ℕ, List, true, false, IfOk, IfErr, IfSome, OnErr};
 ghost use Rattle.spur_graph.specs.declared.answer.Answer.TheVariants.{Refused};
 ghost use Rattle.spur_graph.specs.Bytes.{Text};
-ghost use Rattle.spur_graph.specs.State.{Files};
+ghost use Rattle.spur_graph.specs.State.{Files as FileBytes};
 ghost use Rattle.spur_graph.specs.Step.{Step};
-ghost use Rattle.spur_graph.specs.ImageGraph.{image_graph};
-ghost use Rattle.spur_heap.specs.Heaps.{IsHeap};
-ghost use Rattle.image_load.specs.Loaded.{IsImageOf};
+ghost use Rattle.spur_graph.specs.ImageCauses.{IsAccepted};
+ghost use Rattle.spur_graph.specs.LoadedGraph.{loaded_graph, loaded_room};
+ghost use Rattle.spur_graph.specs.Heaps.{Stands};
+ghost use Rattle.image_load.specs.Loaded.{AreLimits, IsCauseOf, LoadCause};
+ghost use Rattle.replay.specs.declared.session.LineFault.TheVariants.{Ended};
+ghost use Rattle.replay.specs.Commands.{Replies, Steps};
+ghost use Rattle.replay.specs.Sessions.{SameRun, StandsFor, state_of};
 
-use handle_table::{HandleTable, NoMemory};
+use crate::commands::obey;
+use image_load::{LoadError, load};
 use script_text::{Syntax, read_line};
-use spur_graph::{Answer, Refusal, keeps_names};
+use spur_graph::{Answer, Limits, Refusal, keeps_names};
 use spur_heap::Heap;
+use spur_io::Files;
 use std::alloc::Global;
+use std::marker::Model;
 
-/// A heap, and the handles that mutators hold on its objects.
+/// Why a line of a session has no answer.
+#[derive(Clone, Copy, Debug, PartialEq, Eq)]
+pub enum LineFault {
+    /// A read of a file failed.
+    Read,
+    /// A write to a file failed.
+    Write,
+    /// There was no memory.
+    Memory,
+    /// The session has ended.
+    Ended,
+}
+
+/// The heap of an image, the name of the script that is run on it, and whether it has ended.
 #[derive(Drop)]
 pub struct Session {
-    pub(crate) heap: Heap,
-    pub(crate) handles: HandleTable,
+    heap: Heap,
+    script: String,
+    ended: bool,
+}
+
+impl Model for Session {
+    ghost use Rattle.std.specs.String.{string_bytes};
+    ghost use Rattle.replay.specs.Sessions.{SessionView, session_code};
+
+    ghost Value = { SessionView };
+
+    ghost coded = { session_code };
+
+    ghost view = { λ s. record { heap = s.heap; script = string_bytes s.script; ended = s.ended } };
+}
+
+/// What a line is answered, or why it is refused.
+fn try_line(heap: &mut Heap, bytes: &[u8]) -> Result<Answer, Refusal>
+    ensures done { IfOk result (λ answer. Replies heap.old bytes.now answer heap.new) }
+    ensures refused { IfErr result (λ why. Replies heap.old bytes.now (Refused why) heap.new) }
+{
+    match read_line(bytes) {
+        Ok(line) => obey(heap, line.mutator, &line.command),
+        Err(Syntax::Long) => Err(Refusal::Long),
+        Err(Syntax::Bad) => Err(Refusal::Syntax),
+    }
+}
+
+/// What a line is answered.
+fn reply(heap: &mut Heap, bytes: &[u8]) -> Answer
+    ensures { Replies heap.old bytes.now result heap.new }
+{
+    match try_line(heap, bytes) {
+        Ok(answer) => answer,
+        Err(why) => Answer::Refused(why),
+    }
+}
+
+/// The step of a line over a heap.
+fn step(heap: &mut Heap, bytes: &[u8]) -> Answer
+    ensures { Steps heap.old bytes.now result heap.new }
+{
+    let answer = reply(heap, bytes);
+    heap.whole();
+    keeps_names();
+    answer
 }
 
 impl Session {
-    ghost use Rattle.replay.specs.Commands.{Steps};
-    ghost use Rattle.replay.specs.Sessions.{graph_of, state_of, StandsFor, IsSession};
-
-    /// A session over a heap, in which no handle is held.
-    pub(crate) fn new(alloc: Global, heap: Heap) -> Result<Session, NoMemory>
-        requires { IsHeap heap }
-        ensures graph { IfOk result (λ s. (bytes : List ℕ) → IsImageOf bytes heap → graph_of s ≡ image_graph bytes) }
-        ensures sound { IfOk result IsSession }
+    /// Loads the image file of this name for a run of the script of that name, with room for further objects as the limits say. The
+    /// script is not read.
+    pub fn start<F: Files>(
+        alloc: Global,
+        files: &mut F,
+        image: &str,
+        script: &str,
+        limits: Limits,
+    ) -> Result<Session, LoadError>
+        requires { AreLimits limits }
+        ensures stands { IfOk result (λ s. IfSome (F.told files.old) (λ store. IsAccepted (store image.now) limits × Stands s.heap (loaded_graph (store image.now)) (loaded_room (store image.now) limits))) }
+        ensures begins { IfOk result (λ s. (s.script ≡ script.now) × (s.ended ≡ false)) }
+        ensures refused { IfErr result (λ e. IfSome (F.told files.old) (λ store. IsCauseOf (store image.now) limits e)) }
+        ensures same { F.told files.new ≡ F.told files.old }
+        ensures cause { LoadCause (F.read_count files.old) (F.read_count files.new) result }
+        ensures other { F.write_count files.new ≡ F.write_count files.old }
     {
-        let handles = HandleTable::new(alloc)?;
-        Ok(Session { heap, handles })
+        let Ok(script) = String::from_str(alloc, script) else {
+            return Err(LoadError::Memory);
+        };
+        let heap = load(alloc, files, image, limits)?;
+        Ok(Session {
+            heap,
+            script,
+            ended: false,
+        })
     }
 
-    /// What a line is answered, or why it is refused.
-    fn answer(&mut self, bytes: &[u8]) -> Result<Answer, Refusal>
-        requires { IsSession self.old }
-        ensures done { IfOk result (λ answer. Steps self.old bytes.now answer self.new) }
-        ensures refused { IfErr result (λ why. Steps self.old bytes.now (Refused why) self.new) }
-        ensures sound { IsSession self.new }
+    /// The heap as the lines so far have left it.
+    pub fn heap(&self) -> &Heap
+        ensures { result.now ≡ self.now.heap }
     {
-        keeps_names();
-        match read_line(bytes) {
-            Ok(line) => self.obey(line.mutator, &line.command),
-            Err(Syntax::Long) => Err(Refusal::Long),
-            Err(Syntax::Bad) => Err(Refusal::Syntax),
-        }
+        &self.heap
+    }
+
+    /// Whether the session has ended.
+    pub fn ended(&self) -> bool
+        ensures { result ≡ self.now.ended }
+    {
+        self.ended
+    }
+
+    /// The answer to a line without its line feed, whether or not the session has ended; of a line of more than 1,024 bytes any first
+    /// bytes do that are more than 1,024 too.
+    pub(crate) fn answer(&mut self, bytes: &[u8]) -> Answer
+        ensures step { Steps self.old.heap bytes.now result self.new.heap }
+        ensures run { SameRun self.old self.new }
+    {
+        step(&mut self.heap, bytes)
     }
 
     /// The answer to a line without its line feed; of a line of more than 1,024 bytes any first bytes do that are more than 1,024 too.
-    pub(crate) fn line(&mut self, bytes: &[u8]) -> Answer
-        requires { IsSession self.old }
-        ensures step { (files : Files) (script line : Text) → StandsFor bytes.now line → Step (state_of self.old files script) line result (state_of self.new files script) }
-        ensures sound { IsSession self.new }
+    /// [`LineFault::Ended`] where the session has ended; then nothing changes.
+    pub fn line<F: Files>(&mut self, files: &mut F, bytes: &[u8]) -> Result<Answer, LineFault>
+        ensures step { IfOk result (λ answer. (store : FileBytes) (text : Text) → StandsFor bytes.now text → Step (state_of self.old store) text answer (state_of self.new store)) }
+        ensures open { IfOk result (λ answer. self.old.ended ≡ false) }
+        ensures fault { IfErr result (λ why. (why ≡ Ended) × (self.old.ended ≡ true)) }
+        ensures same { OnErr result (self.new ≡ self.old) }
+        ensures run { SameRun self.old self.new }
+        ensures told { F.told files.new ≡ F.told files.old }
+        ensures counts { (F.read_count files.new ≡ F.read_count files.old) × (F.write_count files.new ≡ F.write_count files.old) }
     {
-        match self.answer(bytes) {
-            Ok(answer) => answer,
-            Err(why) => Answer::Refused(why),
+        if self.ended {
+            return Err(LineFault::Ended);
         }
+        Ok(self.answer(bytes))
     }
 }

@@ -5,15 +5,15 @@ use std::alloc::Global;
 use std::process::Abort;
 use std::test::Fail;
 
-const FIRST_SCRIPT: &str = "special s\nfetch c s 3\nkind c\n";
+pub(crate) const FIRST_SCRIPT: &str = "special s\nfetch c s 3\nkind c\n";
 
-const FIRST_ANSWERS: &str = "ok\nok\nobject 32 1\n";
-
-const USAGE: &str =
-    "usage: spur replay IMAGE SCRIPT [--eden W] [--survivor W] [--room W] [--saved W] | spur drill START LINES\n";
+pub(crate) const FIRST_ANSWERS: &str = "ok\nok\nobject 32 1\n";
 
 mod handles;
+mod images;
 mod lines;
+mod options;
+mod sessions;
 mod slots;
 mod units;
 mod values;
@@ -46,7 +46,7 @@ pub(crate) fn patch(
 }
 
 /// The status of a run with these words.
-fn status(
+pub(crate) fn status(
     alloc: Global,
     words: &[&str],
     files: &mut MemoryFiles,
@@ -126,117 +126,13 @@ fn the_last_line_needs_no_line_feed(rt: HostRuntime) -> Result<(), Fail> {
 }
 
 #[test]
-fn images_are_refused(rt: HostRuntime) -> Result<(), Fail> {
-    let mut files = store(rt.alloc(), FIRST_SCRIPT)?;
-    patch(rt.alloc(), &mut files, 72, &[0; 8])?;
-    check(
-        &rt,
-        rt.alloc(),
-        &mut files,
-        Status::Refused,
-        "image: unsupported\n",
-    )?;
-    let mut files = store(rt.alloc(), FIRST_SCRIPT)?;
-    patch(rt.alloc(), &mut files, 0, &68533u32.to_le_bytes())?;
-    check(
-        &rt,
-        rt.alloc(),
-        &mut files,
-        Status::Refused,
-        "image: format 68533\n",
-    )?;
-    // slot 0 of the special objects array names its own word, then a page
-    let mut files = store(rt.alloc(), FIRST_SCRIPT)?;
-    patch(rt.alloc(), &mut files, 50320, &1_098_768u64.to_le_bytes())?;
-    check(
-        &rt,
-        rt.alloc(),
-        &mut files,
-        Status::Refused,
-        "image: unsupported\n",
-    )?;
-    let mut files = store(rt.alloc(), FIRST_SCRIPT)?;
-    patch(rt.alloc(), &mut files, 50320, &1_082_000u64.to_le_bytes())?;
-    check(
-        &rt,
-        rt.alloc(),
-        &mut files,
-        Status::Refused,
-        "image: unsupported\n",
-    )?;
-    // the second place of the hidden roots names the first page again
-    let mut files = store(rt.alloc(), FIRST_SCRIPT)?;
-    patch(
-        rt.alloc(),
-        &mut files,
-        128 + 8 * 74,
-        &1_082_000u64.to_le_bytes(),
-    )?;
-    check(
-        &rt,
-        rt.alloc(),
-        &mut files,
-        Status::Refused,
-        "image: unsupported\n",
-    )?;
-    let mut files = store(rt.alloc(), FIRST_SCRIPT)?;
-    files.begin("base.image")?;
-    files.append("base.image", &[0; 127])?;
-    check(
-        &rt,
-        rt.alloc(),
-        &mut files,
-        Status::Refused,
-        "image: short 127\n",
-    )
-}
-
-/// Asserts that a run with these words is answered by the usage line.
-fn check_usage(
-    rt: &impl Abort,
-    alloc: Global,
-    files: &mut MemoryFiles,
-    words: &[&str],
-) -> Result<(), Fail> {
-    let mut out = MemorySink::new(alloc)?;
-    let status = status(alloc, words, files, &mut out)?;
-    assert_eq!(rt; status, Status::Usage);
-    assert_eq!(rt; out.bytes(), USAGE.as_bytes());
-    Ok(())
-}
-
-#[test]
-fn other_words_are_misused(rt: HostRuntime) -> Result<(), Fail> {
-    let mut files = store(rt.alloc(), FIRST_SCRIPT)?;
-    check_usage(&rt, rt.alloc(), &mut files, &["replay", "x"])?;
-    check_usage(&rt, rt.alloc(), &mut files, &[])?;
-    check_usage(
-        &rt,
-        rt.alloc(),
-        &mut files,
-        &["replay", "base.image", "a.script", "--room"],
-    )?;
-    check_usage(&rt, rt.alloc(), &mut files, &["replay", "", "a.script"])?;
-    check_usage(&rt, rt.alloc(), &mut files, &["replay", "base.image", "-"])?;
-    check_usage(
-        &rt,
-        rt.alloc(),
-        &mut files,
-        &["play", "base.image", "a.script"],
-    )
-}
-
-#[test]
-fn each_read_may_fail(rt: HostRuntime) -> Result<(), Fail> {
-    let put = ["", "", "", "", FIRST_ANSWERS];
-    'reads: for (k, put) in put.iter().enumerate() {
+fn reads_of_the_image_may_fail(rt: HostRuntime) -> Result<(), Fail> {
+    'reads: for k in 1..3 {
         let mut files = store(rt.alloc(), FIRST_SCRIPT)?;
-        files.fail_calls(rt.alloc(), CallKind::Read, k as u64 + 1)?;
-        check(&rt, rt.alloc(), &mut files, Status::ReadFault, put)?;
+        files.fail_calls(rt.alloc(), CallKind::Read, k)?;
+        check(&rt, rt.alloc(), &mut files, Status::ReadFault, "")?;
     }
-    let mut files = store(rt.alloc(), FIRST_SCRIPT)?;
-    files.fail_calls(rt.alloc(), CallKind::Read, 6)?;
-    check(&rt, rt.alloc(), &mut files, Status::Done, FIRST_ANSWERS)
+    Ok(())
 }
 
 #[test]

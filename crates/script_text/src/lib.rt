@@ -25,3 +25,4 @@ mod word;
 pub use answer::write_answer;
 pub use laws::{answers_are_lines, one_reading, words_are_line};
 pub use line::{Syntax, read_line};
+pub use number::number_of;

@@ -1,13 +1,12 @@
 -- The base image, as its definitions compute.
-use Rattle.std.proofs.Common.{◌≡◌, ℕ, List, [], ◌∷◌, refl, Some, false}
-use Rattle.std.specs.Prelude.{length, pos, map, take}
-use Rattle.object_header.specs.Head.{head_of, body_of, formed}
+use Rattle.std.proofs.Common.{◌≡◌, ℕ, List, [], ◌∷◌, refl, Some, None, Option}
+use Rattle.std.specs.Prelude.{length, map, take}
 use Rattle.object_header.specs.Field.{field_of}
-use Rattle.spur_graph.specs.declared.answer.Value.TheVariants.{Int, Ref}
 use Rattle.spur_graph.specs.Bytes.{words_in}
-use Rattle.spur_graph.specs.ImageFile.{format, header_size, heap_bytes, base, special_word, last_hash, first_segment, heap_words, bridge}
-use Rattle.spur_graph.specs.Objects.{object_starts, starts_from, ordinary_starts, is_internal, page_slots, slots_at, pointer_words, node_at}
-use Rattle.spur_graph.specs.ImageGraph.{read}
+use Rattle.spur_graph.specs.ImageFile.{format, header_size, heap_bytes, base, special_word, last_hash, first_segment}
+use Rattle.spur_graph.specs.Segments.{Segment, segments, segment, chain, all_words, word_in, address_in, offset_in}
+use Rattle.spur_graph.specs.Chunks.{Chunk, chunks, chunks_from, chunk_of}
+use Rattle.spur_graph.specs.Cells.{Cell, There, cell_in, read_cell}
 use Rattle.spur_graph.specs.BaseImage.{base_image, base_header, base_words, base_word, nil}
 
 whole : length base_image ≡ 50416
@@ -19,37 +18,51 @@ numbers : (format base_image ∷ header_size base_image ∷ heap_bytes base_imag
 unfolding base_image base_header base_words base_word
 numbers = refl
 
--- the words of the file are those of the table
-words : heap_words base_image ≡ base_words
-unfolding heap_words words_in base_image base_header base_words base_word
-words = refl
+-- the one segment of the file
+abbrev one : List Segment
+one = record { at = 128; size = 50288; address = 1048576 } ∷ []
 
-ends : bridge base_words ≡ 0 ∷ 0 ∷ []
-unfolding base_words base_word
-ends = refl
+one_segment : segments base_image ≡ one
+unfolding segments chain segment field_of base_image base_header base_words base_word
+one_segment = refl
 
+-- the words of the objects, without the bridge
 abbrev objects : List ℕ
 objects = take 6284 base_words
 
-nineteen : object_starts objects ≡ Some (0 ∷ 2 ∷ 4 ∷ 6 ∷ 72 ∷ 4178 ∷ 5204 ∷ 6229 ∷ 6233 ∷ 6237 ∷ 6241 ∷ 6245 ∷ 6249 ∷ 6253 ∷ 6257 ∷ 6261 ∷ 6265 ∷ 6269 ∷ 6273 ∷ [])
-unfolding object_starts starts_from head_of body_of formed field_of base_words base_word
+words : all_words base_image ≡ objects
+unfolding all_words segments chain segment field_of words_in base_image base_header base_words base_word
+words = refl
+
+nineteen : map (λ (c : Chunk). c.start) (chunks objects) ≡ 0 ∷ 2 ∷ 4 ∷ 6 ∷ 72 ∷ 4178 ∷ 5204 ∷ 6229 ∷ 6233 ∷ 6237 ∷ 6241 ∷ 6245 ∷ 6249 ∷ 6253 ∷ 6257 ∷ 6261 ∷ 6265 ∷ 6269 ∷ 6273 ∷ []
+unfolding chunks chunks_from chunk_of field_of base_words base_word
 nineteen = refl
 
-fifteen : ordinary_starts 1048576 objects ≡ 0 ∷ 2 ∷ 4 ∷ 6229 ∷ 6233 ∷ 6237 ∷ 6241 ∷ 6245 ∷ 6249 ∷ 6253 ∷ 6257 ∷ 6261 ∷ 6265 ∷ 6269 ∷ 6273 ∷ []
-unfolding ordinary_starts is_internal page_slots slots_at object_starts starts_from head_of body_of formed field_of base_words base_word
-fifteen = refl
+-- the sizes of the first seven: an overflow word is a word of its chunk
+sizes : map (λ (c : Chunk). c.size) (take 7 (chunks objects)) ≡ 2 ∷ 2 ∷ 2 ∷ 65 ∷ 4106 ∷ 1026 ∷ 1026 ∷ []
+unfolding chunks chunks_from chunk_of field_of base_words base_word
+sizes = refl
 
--- the class of arrays
-array_class : node_at (read nil) objects 6249 ≡ record { class = 32; hash = 51; format = 1; pointers = Ref nil ∷ Ref nil ∷ Int (pos 131072) ∷ []; units = []; pinned = false; readonly = false }
-unfolding node_at pointer_words slots_at field_of base_words base_word
+-- the words that addresses name: nil, the class of arrays, the special objects array, and none between words or in the bridge
+named : (word_in one 0 1048576 ∷ word_in one 0 1098568 ∷ word_in one 0 1098760 ∷ word_in one 0 1098761 ∷ word_in one 0 1098848 ∷ []) ≡ Some 0 ∷ Some 6249 ∷ Some 6273 ∷ None ∷ None ∷ []
+unfolding word_in
+named = refl
+
+addressed : (address_in one 0 ∷ address_in one 6249 ∷ []) ≡ 1048576 ∷ 1098568 ∷ []
+unfolding address_in
+addressed = refl
+
+-- the header of the class of arrays, and the end of the last segment's objects
+placed : (offset_in one 6249 ∷ offset_in one 6284 ∷ []) ≡ 50120 ∷ 50400 ∷ []
+unfolding offset_in
+placed = refl
+
+-- the class of arrays: two slots are nil, the third is the SmallInteger 131072
+array_class : cell_in (word_in one 0) objects (chunks objects) 6249 ≡ There (record { class = 32; hash = 51; format = 1; pinned = 0; readonly = 0; words = nil ∷ nil ∷ 1048577 ∷ [] })
+unfolding cell_in read_cell chunks chunks_from chunk_of field_of word_in base_words base_word
 array_class = refl
 
 -- header words as they stand in a file, the low byte first: 20 00 00 01 33 00 00 03, and 33 00 00 02 00 00 00 0a
 array_header : map (λ i. base_word i) (6249 ∷ 6273 ∷ []) ≡ 0x0300003301000020 ∷ 0x0a00000002000033 ∷ []
 unfolding base_word
 array_header = refl
-
--- the slots of the hidden roots, behind their overflow word
-roots : slots_at objects 72 ≡ 4104
-unfolding slots_at field_of base_words base_word
-roots = refl

@@ -4,10 +4,11 @@ use Rattle.spur_graph.specs.declared.answer.Value.TheVariants.{Ref}
 use Rattle.spur_graph.specs.declared.answer.Value.TheVariants as values
 use Rattle.spur_graph.specs.declared.answer.Answer.{Answer}
 use Rattle.spur_graph.specs.declared.answer.Answer.TheVariants as answers
-use Rattle.spur_graph.specs.Form.{Form, Special, Nil, Yes, No, Int, Char, Float, Copy, Drop, Kind, Size, Fetch, Store, Unit, SetUnit, Same}
+use Rattle.spur_graph.specs.Form.{Form, Special, Nil, Yes, No, Int, Char, Float, Copy, Drop, Kind, Class, Size, Fetch, Store, Unit, SetUnit, Same}
 use Rattle.spur_graph.specs.Value.{same_value}
 use Rattle.spur_graph.specs.State.{State, bound, dropped, with_changed, value_at, name_at, node_of_handle}
 use Rattle.spur_graph.specs.Shows.{shown}
+use Rattle.spur_graph.specs.Classes.{class_value}
 
 -- an answer and the state after it
 abbrev pub Outcome : Type 0
@@ -30,6 +31,7 @@ outcome s k (Copy h o) = Some (ok (bound s k h (value_at s.graph k o)))
 outcome s k (Drop h) = Some (ok (dropped s k h))
 outcome s k (Fetch h o i) = Some (ok (bound s k h (slice_index_or (node_of_handle s.graph k o).pointers i (Ref s.graph.nil))))
 outcome s k (Kind o) = Some (answers.Shown (shown s.graph (value_at s.graph k o)), s)
+outcome s k (Class h o) = Some (ok (bound s k h (class_value s.graph (value_at s.graph k o))))
 outcome s k (Size o) = Some (answers.Size (length (node_of_handle s.graph k o).pointers) (length (node_of_handle s.graph k o).units), s)
 outcome s k (Store o i v) = Some (ok (with_changed s (name_at s.graph k o) (λ n. record n { pointers = slice_set n.pointers i (value_at s.graph k v) })))
 outcome s k (Unit o i) = Some (answers.Number (slice_index (node_of_handle s.graph k o).units i), s)

@@ -1,11 +1,13 @@
 -- Why an image is refused. Each cause has a set of bad keys: places among the heap's words, numbers of segments or of entries. The first cause that
 -- has a bad key is answered, with what is told of its least one.
-use Rattle.std.specs.Prelude.{ℕ, ◌≡◌, ◌≢◌, ◌+◌, ◌-◌, ◌*◌, ◌/◌, ◌%◌, ◌^◌, ◌<◌, ◌⊎◌, List, length, Bool, true, false, nat_eq, not, ◌||◌, if◌then◌else◌, Result, Ok, Err}
+use Rattle.std.specs.Prelude.{ℕ, ◌≡◌, ◌≢◌, ◌+◌, ◌-◌, ◌*◌, ◌/◌, ◌%◌, ◌^◌, ◌<◌, ◌⊎◌, List, [], ◌∷◌, ◌++◌, codes, length, Bool, true, false, nat_eq, not, ◌||◌, if◌then◌else◌, Result, Ok, Err}
+use Rattle.std.specs.Fmt.{decimal}
 use Rattle.spur_graph.specs.declared.limits.Limits.{Limits}
+use Rattle.spur_graph.specs.Bytes.{Text}
 use Rattle.spur_graph.specs.ImageFile.{header_bytes, spur_format, format, header_size, heap_bytes, base, special_word}
-use Rattle.spur_graph.specs.Segments.{is_good, is_last, left, segment, segments, most_segments, all_words, begin, offset_in, word_in}
-use Rattle.spur_graph.specs.Chunks.{chunks}
-use Rattle.spur_graph.specs.Cells.{Store, store_in, first}
+use Rattle.spur_graph.specs.Segments.{is_good, is_last, left, segment, segments, most_segments, all_words, begin, offset_in}
+use Rattle.spur_graph.specs.Cells.{Store, first}
+use Rattle.spur_graph.specs.FileStores.{file_store}
 use Rattle.spur_graph.specs.Ordinary.{page_places, page_entries, page_of, is_good_reference, is_bad_forwarder, is_bad_page, is_bad_entry, is_bad_slot, body_at}
 use Rattle.spur_graph.specs.Places.{IsBadObject, IsBadRoot}
 
@@ -86,9 +88,9 @@ is_bad_segment bytes i = nat_eq i most_segments || not (is_good bytes (segment b
 abbrev pub IsBadLink : List ℕ → ℕ → Type 0
 IsBadLink bytes i = (is_bad_segment bytes i ≡ true) ⊎ ((is_last bytes (segment bytes i) ≡ true) × (behind bytes i ≢ 0))
 
--- the words of an image's heap as a store; a reference is the address of a word
+-- the words of an image's heap as a store
 abbrev pub image_store : List ℕ → Store
-image_store bytes = store_in (word_in (segments bytes) 0) (all_words bytes) (chunks (all_words bytes))
+image_store bytes = file_store (segments bytes) (all_words bytes)
 
 -- the bad keys of a row: a place among the heap's words where chunks, roots, forwarders or slots are bad, a number where segments, pages or entries
 -- are, else any
@@ -154,3 +156,23 @@ pub record FirstCause (bytes : List ℕ) (limits : Limits) (cause : Cause) : Typ
 -- no cause applies
 abbrev pub IsAccepted : List ℕ → Limits → Type 0
 IsAccepted bytes limits = (row : Row) (n : ℕ) → Bad bytes limits row n → ⊥
+
+-- the words of a cause
+abbrev pub cause_text : Cause → Text
+cause_text (Short n) = codes "short " ++ decimal n
+cause_text (Format n) = codes "format " ++ decimal n
+cause_text (HeaderSize n) = codes "header " ++ decimal n
+cause_text (Base n) = codes "base " ++ decimal n
+cause_text (Large n) = codes "large " ++ decimal n
+cause_text (Segment n) = codes "segment " ++ decimal n
+cause_text (End n) = codes "end " ++ decimal n
+cause_text (Object n) = codes "object " ++ decimal n
+cause_text (Roots n) = codes "roots " ++ decimal n
+cause_text (Forwarder n) = codes "forwarder " ++ decimal n
+cause_text (Class n) = codes "class " ++ decimal n
+cause_text (Slot n) = codes "slot " ++ decimal n
+cause_text (Special n) = codes "special " ++ decimal n
+
+-- the line of a refused image
+abbrev pub cause_line : Cause → Text
+cause_line cause = codes "image: " ++ (cause_text cause ++ 10 ∷ [])

@@ -1,7 +1,7 @@
 -- The bytes of an image file: a header of 128 bytes, and the heap behind it.
-use Rattle.std.specs.Prelude.{ℕ, ◌-◌, List, take, drop, length}
+use Rattle.std.specs.Prelude.{ℕ, List}
 use Rattle.std.specs.Int.{w32, w64}
-use Rattle.spur_graph.specs.Bytes.{number, words_in}
+use Rattle.spur_graph.specs.Bytes.{number}
 
 -- the length of the header
 abbrev pub header_bytes : ℕ
@@ -38,19 +38,3 @@ last_hash bytes = number w64 32 bytes
 -- bytes 72 to 79, the length of the first segment
 abbrev pub first_segment : List ℕ → ℕ
 first_segment bytes = number w64 72 bytes
-
--- the words of the heap
-unfoldable pub heap_words : List ℕ → List ℕ
-heap_words bytes = words_in (take (heap_bytes bytes) (drop header_bytes bytes))
-
--- a segment ends in a bridge of two words; the words before it are those of its objects
-abbrev pub without_bridge : List ℕ → List ℕ
-without_bridge words = take (length words - 2) words
-
--- the last two words of a segment
-abbrev pub bridge : List ℕ → List ℕ
-bridge words = drop (length words - 2) words
-
--- the words of the objects of an image of one segment
-abbrev pub object_words : List ℕ → List ℕ
-object_words bytes = without_bridge (heap_words bytes)

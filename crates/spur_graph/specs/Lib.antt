@@ -11,6 +11,7 @@ pub mod Cells
 pub mod Ordinary
 pub mod CellGraph
 pub mod Places
+pub mod FileStores
 pub mod ImageCauses
 pub mod CellRoom
 pub mod Heaps
@@ -24,12 +25,9 @@ pub mod State
 pub mod Refusals
 pub mod Refused
 pub mod Shows
+pub mod Classes
 pub mod Does
 pub mod Step
 pub mod Bytes
 pub mod ImageFile
-pub mod Objects
-pub mod FirstForm
-pub mod ImageGraph
-pub mod Causes
 pub mod BaseImage

@@ -4,7 +4,7 @@ use Rattle.spur_graph.specs.declared.answer.Refusal.{Refusal}
 use Rattle.spur_graph.specs.declared.answer.Refusal.TheVariants as r
 use Rattle.spur_graph.specs.Graph.{Graph}
 use Rattle.spur_graph.specs.Bytes.{Text}
-use Rattle.spur_graph.specs.Form.{Form, Special, Nil, Yes, No, Int, Char, Float, Copy, Drop, Kind, Size, Fetch, Store, Unit, SetUnit, Same}
+use Rattle.spur_graph.specs.Form.{Form, Special, Nil, Yes, No, Int, Char, Float, Copy, Drop, Kind, Class, Size, Fetch, Store, Unit, SetUnit, Same}
 use Rattle.spur_graph.specs.State.{State, node_of_handle}
 use Rattle.spur_graph.specs.Refusals.{Row, first, unknown, handles, immediate, raw_read, raw_write, raw_unit, index_in, readonly, unit_range, int_range, char_range, float_range}
 
@@ -25,6 +25,7 @@ row s k (Copy h o) = binds s.graph k h (o ∷ []) []
 row s k (Drop h) = unknown s.graph k (h ∷ []) ∷ []
 row s k (Fetch h o i) = binds s.graph k h (o ∷ []) (immediate s.graph k (o ∷ []) ∷ raw_read (node_of_handle s.graph k o) ∷ index_in (node_of_handle s.graph k o).pointers i ∷ [])
 row s k (Kind o) = unknown s.graph k (o ∷ []) ∷ []
+row s k (Class h o) = binds s.graph k h (o ∷ []) []
 row s k (Size o) = unknown s.graph k (o ∷ []) ∷ immediate s.graph k (o ∷ []) ∷ []
 row s k (Store o i v) =
     unknown s.graph k (o ∷ v ∷ []) ∷ immediate s.graph k (o ∷ []) ∷ raw_write (node_of_handle s.graph k o) i

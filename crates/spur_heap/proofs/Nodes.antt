@@ -1,66 +1,97 @@
--- The nodes of the objects of some words, of which one changes.
-use Rattle.std.proofs.Common.{◌≡◌, ◌≢◌, inl, inr, ℕ, suc, List, [], ◌∷◌, arith, refl, sym, ap, ◌∙◌, Some, true, false, cond}
-use Rattle.std.specs.List.{Contains}
-use Rattle.std.specs.declared.cmp.Ordering.TheVariants.{Less, Equal, Greater}
-use Rattle.std.specs.Ordering.{nat_cmp, eq_by_cmp, is_eq}
-use Rattle.std.specs.Cmp.{nat_cmp_total, eq_by_cmp_equiv, ranked}
-use Rattle.std.specs.FinMap.{get, insert, same_map, nat_cmp-IsAntisymmetric, get-insert}
+-- The node of an object, and of the same with another pointer or another unit.
+use Rattle.std.proofs.Common.{◌≡◌, ℕ, true, ◌==◌, ◌+◌, ◌*◌, ◌/◌, ◌%◌, ◌^◌, ◌<◌, ◌≤◌, zero, suc, List, [], ◌∷◌, map, take, drop, length, get_or, set, refl, ap, ◌∙◌, arith}
+use Rattle.std.proofs.lemmas.Bool.{lt-ltb}
+use Rattle.std.proofs.lemmas.Bool.Decides.{nat_tests}
+use Rattle.std.proofs.lemmas.List.{length-map, length-take-le, get_or-take, map-set, take-set-le, drop-set-lt}
+use Rattle.std.specs.List.{range_with_len}
+use Rattle.object_header.specs.Field.{with_field}
+use Rattle.object_header.specs.Formats.{is_method, unit_bytes_of, pointer_slots_of}
+use Rattle.object_header.specs.Head.{literals_of}
 use Rattle.spur_graph.specs.declared.answer.Value.{Value}
 use Rattle.spur_graph.specs.Node.{Node}
-use Rattle.spur_graph.specs.Objects.{address, node_at}
-use Rattle.spur_graph.specs.ImageGraph.{nodes_from}
-use Rattle.spur_heap.proofs.Frames.{contains_cases}
+use Rattle.spur_graph.specs.Cells.{Body, Store, pointer_count, pointers, unit_count, unit_at, units, is_formed}
+use Rattle.spur_graph.specs.CellGraph.{read, node_of}
+use Rattle.spur_graph.specs.Heaps.{own_name}
+use Rattle.heap_cells.proofs.Bodies.{IsLike, with_words, pointer_count-same, unit_count-same, units-same, pointers_fit}
+use Rattle.heap_cells.proofs.ObjectWrites.{take-set_in}
+use Rattle.spur_heap.proofs.UnitRows.{units_count, units_written}
 
-same_key : (a b : ℕ) → a ≡ b → eq_by_cmp nat_cmp a b ≡ true
-same_key a b is = ap (eq_by_cmp nat_cmp a) (sym is) ∙ (eq_by_cmp_equiv nat_cmp_total).refl a
+map_read : {X : Type 0} (f : ℕ → X) (ws : List ℕ) (i : ℕ) (d : X) → i < length ws → get_or (map f ws) i d ≡ f (get_or ws i 0)
+map_read f [] i d l = absurd (omega arith)
+map_read f (w ∷ ws) zero d l = refl
+map_read f (w ∷ ws) (suc i) d l = map_read f ws i d (omega arith)
 
-key_same : (a b : ℕ) → eq_by_cmp nat_cmp a b ≡ true → a ≡ b
-key_same a b is = elim (nat_cmp a b) as (λ r. r ≡ nat_cmp a b → is_eq r ≡ true → a ≡ b) [
-  | Less ↦ λ e t. cc
-  | Equal ↦ λ e t. ranked a b Equal e
-  | Greater ↦ λ e t. cc
-] refl is
+-- what a node has of the header
+pub record HasFields (n : Node) (b : Body) : Type 0 where
+  pub class : n.class ≡ b.class
+  pub hash : n.hash ≡ b.hash
+  pub format : n.format ≡ b.format
+  pub pinned : n.pinned ≡ (b.pinned == 1)
+  pub readonly : n.readonly ≡ (b.readonly == 1)
 
--- each object has its node at its address
-pub node_found : (value : ℕ → Value) (base : ℕ) (words starts : List ℕ) (s : ℕ) → Contains starts s → get (nodes_from value base words starts) (address base s) ≡ Some (node_at value words s)
-node_found value base words [] s (k, below, is) = absurd (omega arith)
-node_found value base words (t ∷ starts) s among =
-    get-insert nat_cmp_total (nodes_from value base words starts) (address base t) (node_at value words t) (address base s)
-    ∙ elim (eq_by_cmp nat_cmp (address base s) (address base t)) as (λ b. eq_by_cmp nat_cmp (address base s) (address base t) ≡ b → cond b (Some (node_at value words t)) (get (nodes_from value base words starts) (address base s)) ≡ Some (node_at value words s)) [
-      | true ↦ λ e. let same : address base s ≡ address base t = key_same _ _ e in let one : t ≡ s = omega (arith, same) in ap (λ r. Some (node_at value words r)) one
-      | false ↦ λ e. elim (contains_cases s t starts among) [
-        | inl one ↦ let same = same_key (address base s) (address base t) (ap (address base) (sym one)) in cc
-        | inr other ↦ node_found value base words starts s other
-      ]
-    ] refl
+module _ (h : Store) (b : Body) where
+  pub node_fields : HasFields (node_of own_name h b) b
+  unfolding node_of
+  node_fields = record { class = refl; hash = refl; format = refl; pinned = refl; readonly = refl }
 
-module _ (value : ℕ → Value) (base : ℕ) (old new : List ℕ) (s : ℕ) where
-  -- at all other addresses the nodes are as before
-  nodes_else : (starts : List ℕ) (a : ℕ) → a ≢ address base s → ((t : ℕ) → Contains starts t → t ≢ s → node_at value new t ≡ node_at value old t)
-      → get (nodes_from value base new starts) a ≡ get (nodes_from value base old starts) a
-  nodes_else [] a ne same = refl
-  nodes_else (t ∷ starts) a ne same =
-      let rest : get (nodes_from value base new starts) a ≡ get (nodes_from value base old starts) a = nodes_else starts a ne (λ u among. same u (behind_first t u starts among)) in
-      get-insert nat_cmp_total (nodes_from value base new starts) (address base t) (node_at value new t) a
-      ∙ elim (eq_by_cmp nat_cmp a (address base t)) as (λ b. eq_by_cmp nat_cmp a (address base t) ≡ b
-      → cond b (Some (node_at value new t)) (get (nodes_from value base new starts) a) ≡ cond b (Some (node_at value old t)) (get (nodes_from value base old starts) a)) [
-        | true ↦ λ e.
-            let other : t ≢ s = λ one. ne (key_same _ _ e ∙ ap (address base) one) in
-            ap Some (same t (0, omega arith, refl) other)
-        | false ↦ λ e. rest
-      ] refl
-      ∙ sym (get-insert nat_cmp_total (nodes_from value base old starts) (address base t) (node_at value old t) a)
-    where
-      behind_first : (y x : ℕ) (ys : List ℕ) → Contains ys x → Contains (y ∷ ys) x
-      behind_first y x ys (k, below, is) = (suc k, omega arith, is)
+  pointers_are : (node_of own_name h b).pointers ≡ map (read own_name h) (pointers b)
+  unfolding node_of
+  pointers_are = refl
 
-  -- the nodes with another node for the one object that changes
-  pub nodes_changed : (starts : List ℕ) (n : Node) → Contains starts s → node_at value new s ≡ n → ((t : ℕ) → Contains starts t → t ≢ s → node_at value new t ≡ node_at value old t)
-      → nodes_from value base new starts ≡ insert (nodes_from value base old starts) (address base s) n
-  nodes_changed starts n among is same = same_map nat_cmp_total nat_cmp-IsAntisymmetric _ _ (λ a.
-      elim (eq_by_cmp nat_cmp a (address base s)) as (λ b. eq_by_cmp nat_cmp a (address base s) ≡ b
-      → get (nodes_from value base new starts) a ≡ cond b (Some n) (get (nodes_from value base old starts) a)) [
-        | true ↦ λ e. ap (get (nodes_from value base new starts)) (key_same _ _ e) ∙ (node_found value base new starts s among ∙ ap Some is)
-        | false ↦ λ e. nodes_else starts a (λ one. let k = same_key a (address base s) one in cc) same
-      ] refl
-      ∙ sym (get-insert nat_cmp_total (nodes_from value base old starts) (address base s) n a))
+  units_are : (node_of own_name h b).units ≡ units b
+  unfolding node_of
+  units_are = refl
+
+  pub node_units : length (node_of own_name h b).units ≡ unit_count b
+  node_units = ap length units_are ∙ units_count b
+
+  pub node_unit : (i : ℕ) → get_or (node_of own_name h b).units i 0 ≡ get_or (units b) i 0
+  node_unit i = ap (λ us. get_or us i 0) units_are
+
+  module _ (formed : is_formed b ≡ true) where
+    taken : length (pointers b) ≡ pointer_count b
+    taken = length-take-le (pointer_count b) b.words (pointers_fit b formed)
+
+    pub node_pointers : length (node_of own_name h b).pointers ≡ pointer_count b
+    node_pointers = ap length pointers_are ∙ length-map (pointers b) (read own_name h) ∙ taken
+
+    pub node_pointer : (i : ℕ) (d : Value) → i < pointer_count b → get_or (node_of own_name h b).pointers i d ≡ read own_name h (get_or b.words i 0)
+    node_pointer i d low =
+        ap (λ vs. get_or vs i d) pointers_are
+        ∙ map_read (read own_name h) (pointers b) i d (omega (arith, low, taken))
+        ∙ ap (read own_name h) (get_or-take (pointer_count b) b.words i 0 low)
+
+    -- a pointer is written
+    pub node_with_pointer : (i w : ℕ) → i < pointer_count b → IsLike b (set b.words i w)
+        → node_of own_name h (with_words b (set b.words i w)) ≡ record (node_of own_name h b) { pointers = set (node_of own_name h b).pointers i (read own_name h w) }
+    unfolding node_of
+    node_with_pointer i w low like =
+        let values : map (read own_name h) (take (pointer_count (with_words b (set b.words i w))) (set b.words i w)) ≡ set (map (read own_name h) (pointers b)) i (read own_name h w) =
+        ap (λ m. map (read own_name h) (take m (set b.words i w))) (pointer_count-same b (set b.words i w) like)
+        ∙ ap (map (read own_name h)) (take-set_in b.words (pointer_count b) i w low)
+        ∙ map-set (read own_name h) (pointers b) i w in
+        let rest : units (with_words b (set b.words i w)) ≡ units b = units-same b (set b.words i w) like (drop-set-lt (pointer_count b) b.words i w low) in
+        λ x. record { class = b.class; hash = b.hash; format = b.format; pointers = values x; units = rest x; pinned = b.pinned == 1; readonly = b.readonly == 1 }
+
+    -- a unit is written
+    pub node_with_unit : (i v : ℕ) → i < unit_count b → (range : v < 2 ^ (8 * unit_bytes_of b.format))
+        → (ws : List ℕ) → ws ≡ set b.words (pointer_count b + i * unit_bytes_of b.format / 8) (with_field (8 * (i * unit_bytes_of b.format % 8)) (8 * unit_bytes_of b.format) (get_or b.words (pointer_count b + i * unit_bytes_of b.format / 8) 0) v)
+        → IsLike b ws → node_of own_name h (with_words b ws) ≡ record (node_of own_name h b) { units = set (node_of own_name h b).units i v }
+    unfolding node_of
+    node_with_unit i v low range ws is like =
+        let at : ℕ = pointer_count b + i * unit_bytes_of b.format / 8 in
+        let x : ℕ = with_field (8 * (i * unit_bytes_of b.format % 8)) (8 * unit_bytes_of b.format) (get_or b.words at 0) v in
+        let front : take (pointer_count (with_words b ws)) ws ≡ pointers b =
+        ap (λ m. take m ws) (pointer_count-same b ws like) ∙ ap (take (pointer_count b)) is ∙ take-set-le (pointer_count b) b.words at x (omega arith) in
+        let rest : units (with_words b ws) ≡ set (units b) i v =
+        (λ y. map (unit_at (unit_bytes_of b.format) (drop (pointer_count-same b ws like y) (is y))) (range_with_len 0 (unit_count-same b ws like y)))
+        ∙ units_written b formed i low v range in
+        λ y. record { class = b.class; hash = b.hash; format = b.format; pointers = map (read own_name h) (front y); units = rest y; pinned = b.pinned == 1; readonly = b.readonly == 1 }
+
+-- a method has a pointer slot at least
+pub method_some : (b : Body) → 24 ≤ b.format → 0 < pointer_count b
+unfolding pointer_count
+method_some b l = some b.format (length b.words) (literals_of (get_or b.words 0 0)) (lt-ltb 23 b.format (omega arith))
+  where
+    some : (f n m : ℕ) → is_method f ≡ true → 0 < pointer_slots_of f n m
+    some f n m method = grind (arith, nat_tests, method)

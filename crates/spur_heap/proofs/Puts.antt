@@ -1,193 +1,160 @@
--- What is read of an ordinary object of a heap, and a write to one of its slots or units.
-use Rattle.std.proofs.Common.{◌≡◌, ℕ, cond, ◌+◌, ◌-◌, ◌*◌, ◌/◌, ◌%◌, ◌^◌, ◌<◌, ◌≤◌, List, length, get_or, set, sym, ap, ◌∙◌, subst, arith, true}
-use Rattle.std.specs.List.{All}
-use Rattle.std.specs.FinMap.{FinMap}
-use Rattle.std.proofs.lemmas.Bool.{eq-eqb, ne_eqb}
-use Rattle.std.proofs.lemmas.List.{length-set}
-use Rattle.std.proofs.lemmas.List.Elements.{All-contains}
-use Rattle.object_header.specs.Formats.{is_method, unit_bytes_of, unused_of}
-use Rattle.object_header.specs.Head.{format_of, whole_units}
+-- What is read of an ordinary object of a heap, and what a write to one of its slots or units leaves.
+use Rattle.std.proofs.Common.{◌≡◌, ℕ, true, ◌+◌, ◌*◌, ◌/◌, ◌%◌, ◌^◌, ◌<◌, List, length, get_or, set, sym, ap, ◌∙◌, subst, arith}
+use Rattle.std.proofs.lemmas.Bool.{lt-ltb}
 use Rattle.object_header.specs.Field.{field_of, with_field}
+use Rattle.object_header.specs.Fields.{fields_of}
+use Rattle.object_header.specs.Formats.{is_method, unit_bytes_of}
 use Rattle.spur_graph.specs.declared.answer.Value.{Value}
 use Rattle.spur_graph.specs.Node.{Node}
-use Rattle.spur_graph.specs.Graph.{handle_cmp, with_node}
-use Rattle.spur_graph.specs.Objects.{address, header_at, slots_at, pointer_count_at, unit_count_at, pointer_words, ordinary_starts, node_at, starts}
-use Rattle.spur_graph.specs.FirstForm.{IsGood}
-use Rattle.spur_graph.specs.ImageGraph.{read}
-use Rattle.spur_heap.specs.declared.heap.Heap.{Heap}
-use Rattle.spur_heap.specs.Heaps.{IsHeap, IsWithin, IsOrdinary, IsGoodIn, node_in, value_in, graph_in}
+use Rattle.spur_graph.specs.Graph.{with_node}
+use Rattle.spur_graph.specs.Cells.{body_from, pointer_count, unit_count}
+use Rattle.spur_graph.specs.CellGraph.{node_of}
+use Rattle.spur_graph.specs.Heaps.{View, IsWhole, heap_store, heap_value, heap_graph, heap_room, own_name}
+use Rattle.heap_cells.specs.Rows.{slots_from}
+use Rattle.heap_cells.proofs.References.{ordinary_there}
+use Rattle.spur_heap.specs.declared.heap.HeapParts.{HeapParts}
+use Rattle.spur_heap.specs.Parts.{view_of, ArePartsOfHeap}
 use Rattle.spur_heap.specs.Sizes.{IsSize}
-use Rattle.spur_heap.specs.Writes.{unit_bytes_at, unit_place, with_unit}
-use Rattle.spur_heap.proofs.Frames.{IsInside, IsApart}
-use Rattle.spur_heap.proofs.Written.{ordinary_enough, own_apart, first_kept, good_kept, heap_kept, within_kept, graph_changed}
-use Rattle.spur_heap.proofs.Pointers.{pointers_count, pointer_read, pointer_good, pointers_good, node_with_pointer, format_is}
-use Rattle.spur_heap.proofs.Rows.{units_count, unit_known, unit_slot, place_inside, unit_read, pointer_words_same, node_with_unit}
+use Rattle.spur_heap.specs.Words.{AreSound, is_object, is_good, body_in, unit_bytes_in, unit_place, unit_word}
+use Rattle.spur_heap.specs.Views.{IsOrdinary, IsGood, node_in}
+use Rattle.spur_heap.proofs.ObjectWords.{object_body, object_word, object_inside}
+use Rattle.spur_heap.proofs.UnitRows.{UnitAt}
+use Rattle.spur_heap.proofs.SlotCounts.{below, formed, pointers_within, unit_at_place}
+use Rattle.spur_heap.proofs.Nodes.{HasFields, node_fields, node_units, node_unit, node_pointers, node_pointer, node_with_pointer, node_with_unit, method_some}
+use Rattle.spur_heap.proofs.Written.{Write, body_then, starts_kept, reference_kept, good_kept, sound_kept, clear_kept, graph_written, room_kept, same_length, slot_good, like}
 
--- the heap with a word in place of another
-abbrev pub with_word : Heap → ℕ → ℕ → Heap
-with_word h j v = record h { words = set h.words j v }
+pub whole_sound : (v : View) → IsWhole v → AreSound v.words
+whole_sound v whole = record { cut = whole.cut; sound = whole.sound; few = whole.few }
 
-module _ (h : Heap) (s : ℕ) (sound : IsHeap h) (there : IsOrdinary h s) where
-  pub object_within : IsWithin h.words s
-  object_within = All-contains (IsWithin h.words) (ordinary_starts h.base h.words) s sound.within there
+-- ---- reading
 
-  pub pointers_good_in : All (IsGood h.base h.words) (pointer_words h.words s)
-  pointers_good_in = All-contains (λ n. All (IsGood h.base h.words) (pointer_words h.words n)) (ordinary_starts h.base h.words) s sound.heap.slots there
+module _ (v : View) (whole : IsWhole v) (s : ℕ) (there : IsOrdinary v s) where
+  pub object : is_object v.words s ≡ true
+  object = ordinary_there (heap_store v.words) s there
 
-  pub count_is : length (node_in h s).pointers ≡ pointer_count_at h.words s
-  count_is = pointers_count h.words s object_within (value_in h)
+  words_sound : AreSound v.words
+  words_sound = whole_sound v whole
 
-  pub pointer_place : (i : ℕ) → i < length (node_in h s).pointers → s + 1 + i < length h.words
-  pointer_place i low = let w = object_within in omega (arith, count_is, low, w.end, w.pointers)
+  pub fields_are : HasFields (node_in v s) (body_in v.words s)
+  fields_are = node_fields (heap_store v.words) (body_in v.words s)
 
-  pub pointer_value : (i : ℕ) → i < length (node_in h s).pointers → value_in h (get_or h.words (s + 1 + i) 0) ≡ get_or (node_in h s).pointers i (value_in h 0)
-  pointer_value i low = sym (pointer_read h.words s object_within i (omega (arith, count_is, low)) (value_in h))
+  pub body_is : body_in v.words s ≡ body_from (fields_of (get_or v.words s 0)) (slots_from v.words s)
+  body_is = object_body v.words words_sound s object
 
-  pub pointer_is_good : (i : ℕ) → i < length (node_in h s).pointers → IsGoodIn h (get_or h.words (s + 1 + i) 0)
-  pointer_is_good i low = pointer_good h.words s object_within i (omega (arith, count_is, low)) h.base pointers_good_in
+  pub start_inside : s + 1 < length v.words
+  start_inside = below v.words words_sound s object
 
-  -- a word of the object is written
-  module _ (j v : ℕ) (inside : IsInside h.words s j) where
-    pub written_goods : (w : ℕ) → IsGoodIn h w → IsGoodIn (with_word h j v) w
-    written_goods w good = good_kept h.base h.special h.words s j v sound.heap there inside w good
+  pub pointers_count : length (node_in v s).pointers ≡ pointer_count (body_in v.words s)
+  pointers_count = node_pointers (heap_store v.words) (body_in v.words s) (formed v.words words_sound s object)
 
-    pub written_sound : All (IsGood h.base h.words) (pointer_words (set h.words j v) s) → IsHeap (with_word h j v)
-    written_sound good =
-        let first : (i : ℕ) → (n : ℕ) → n ≡ address h.base (get_or (starts h.words) i 0) → n ≡ address h.base (get_or (starts (set h.words j v)) i 0) =
-        λ i n is. is ∙ ap (address h.base) (sym (first_kept h.base h.special h.words s j v sound.heap there inside i)) in
-        record {
-          low = sound.low;
-          aligned = sound.aligned;
-          few = omega (arith, length-set h.words j v, sound.few);
-          heap = heap_kept h.base h.special h.words s j v sound.heap there inside good;
-          within = within_kept h.base h.special h.words s j v sound.heap there inside sound.within;
-          nil_there = first 0 h.nil sound.nil_there;
-          no_there = first 1 h.no sound.no_there;
-          yes_there = first 2 h.yes sound.yes_there;
-        }
+  pub units_count : length (node_in v s).units ≡ unit_count (body_in v.words s)
+  units_count = node_units (heap_store v.words) (body_in v.words s)
 
-    pub written_graph : (n : Node) → node_at (value_in h) (set h.words j v) s ≡ n → (handles : FinMap handle_cmp Value)
-        → graph_in (with_word h j v) handles ≡ with_node (graph_in h handles) (address h.base s) n
-    written_graph n is handles =
-        graph_changed h.base h.special h.words s j v sound.heap there inside h.hash handles n (subst (λ k. node_at (read k) (set h.words j v) s ≡ n) sound.nil_there is)
+  module _ (i : ℕ) (within : i < length (node_in v s).pointers) where
+    low : i < pointer_count (body_in v.words s)
+    low = omega (arith, within, pointers_count)
 
-  -- slot `i` is written
-  module _ (i v : ℕ) (low : i < length (node_in h s).pointers) (literals : is_method (node_in h s).format ≡ true → 0 < i) (good : IsGoodIn h v) where
-    below : i < pointer_count_at h.words s
-    below = omega (arith, count_is, low)
+    pub slot_inside : i < length (body_in v.words s).words
+    slot_inside = omega (arith, low, pointers_within v.words words_sound s object)
 
-    inside : IsInside h.words s (s + 1 + i)
-    inside = record {
-      after = omega arith;
-      before = let w = object_within in omega (arith, below, w.pointers);
-      literals = λ method same. let some = literals (ap is_method (format_is (value_in h) h.words s) ∙ method) in omega (arith, some, same);
+    pub pointer_inside : s + 1 + i < length v.words
+    pointer_inside = object_inside v.words words_sound s object i slot_inside
+
+    pub pointer_value : (d : Value) → heap_value v.words (get_or v.words (s + 1 + i) 0) ≡ get_or (node_in v s).pointers i d
+    pointer_value d =
+        ap (heap_value v.words) (sym (object_word v.words words_sound s object i slot_inside))
+        ∙ sym (node_pointer (heap_store v.words) (body_in v.words s) (formed v.words words_sound s object) i d low)
+
+    pub pointer_good : IsGood v (get_or v.words (s + 1 + i) 0)
+    pointer_good = ap (is_good v.words) (sym (object_word v.words words_sound s object i slot_inside)) ∙ slot_good v.words words_sound s there i low
+
+    pub pointer_write : (w : ℕ) → (is_method (node_in v s).format ≡ true → 0 < i) → IsGood v w → Write v.words s i w
+    pointer_write w literals good = record {
+      sound = words_sound;
+      ordinary = there;
+      inside = slot_inside;
+      literals = λ l. literals (ap is_method fields_are.format ∙ lt-ltb 23 (body_in v.words s).format (omega (arith, l)));
+      value = λ m. good;
     }
 
-    apart : IsApart h.words s (s + 1 + i)
-    apart = own_apart h.base h.special h.words s (s + 1 + i) v sound.heap there inside
+    pub pointer_node : (w : ℕ) → Write v.words s i w → node_of own_name (heap_store v.words) (body_then v.words s i w) ≡ record (node_in v s) { pointers = set (node_in v s).pointers i (heap_value v.words w) }
+    pointer_node w write = node_with_pointer (heap_store v.words) (body_in v.words s) (formed v.words words_sound s object) i w low (like v.words s i w write)
 
-    pub slot_goods : (w : ℕ) → IsGoodIn h w → IsGoodIn (with_word h (s + 1 + i) v) w
-    slot_goods = written_goods (s + 1 + i) v inside
+  module _ (i : ℕ) (within : i < length (node_in v s).units) where
+    unit_low : i < unit_count (body_in v.words s)
+    unit_low = omega (arith, within, units_count)
 
-    pub slot_sound : IsHeap (with_word h (s + 1 + i) v)
-    slot_sound = written_sound (s + 1 + i) v inside (pointers_good h.words s object_within i below v apart h.base good pointers_good_in)
+    at : UnitAt (body_in v.words s) i
+    at = unit_at_place v.words words_sound s object i unit_low
 
-    pub slot_graph : (handles : FinMap handle_cmp Value)
-        → graph_in (with_word h (s + 1 + i) v) handles ≡ with_node (graph_in h handles) (address h.base s) (record (node_in h s) { pointers = set (node_in h s).pointers i (value_in h v) })
-    slot_graph = written_graph (s + 1 + i) v inside (record (node_in h s) { pointers = set (node_in h s).pointers i (value_in h v) }) (node_with_pointer h.words s object_within i below v apart (value_in h))
+    pub unit_size : IsSize (unit_bytes_in v.words s)
+    unit_size = at.size
 
-  -- ---- units
+    -- the slot that has the unit
+    abbrev slot : ℕ
+    slot = pointer_count (body_in v.words s) + i * unit_bytes_in v.words s / 8
 
-  pub bytes_are : unit_bytes_of (node_in h s).format ≡ unit_bytes_at h.words s
-  bytes_are = ap unit_bytes_of (format_is (value_in h) h.words s)
+    unit_slot : get_or (body_in v.words s).words slot 0 ≡ get_or v.words (unit_place v.words s i) 0
+    unit_slot =
+        let place : s + 1 + slot ≡ unit_place v.words s i = omega arith in
+        object_word v.words words_sound s object slot at.inside ∙ ap (λ j. get_or v.words j 0) place
 
-  pub units_are_so_many : length (node_in h s).units ≡ unit_count_at h.words s
-  units_are_so_many = units_count h.words s object_within (value_in h)
+    pub unit_read : field_of (8 * (i * unit_bytes_in v.words s % 8)) (8 * unit_bytes_in v.words s) (get_or v.words (unit_place v.words s i) 0) ≡ get_or (node_in v s).units i 0
+    unit_read =
+        ap (field_of (8 * (i * unit_bytes_in v.words s % 8)) (8 * unit_bytes_in v.words s)) (sym unit_slot)
+        ∙ sym at.read ∙ sym (node_unit (heap_store v.words) (body_in v.words s) i)
 
-  pub units_enough : unused_of (format_of (header_at h.words s)) ≤ whole_units (format_of (header_at h.words s)) (slots_at h.words s) (pointer_count_at h.words s)
-  units_enough = ordinary_enough h.base h.words s sound.heap.cut there
+    pub unit_write : (value : ℕ) → Write v.words s slot (unit_word v.words s i value)
+    unit_write value = record {
+      sound = words_sound;
+      ordinary = there;
+      inside = at.inside;
+      literals = λ l. let some = method_some (body_in v.words s) l in omega (arith, some);
+      value = λ m. absurd (omega (arith, m));
+    }
 
-  pub no_units : unit_bytes_at h.words s ≡ 0 → 0 ≡ length (node_in h s).units
-  no_units none =
-      let rest = (slots_at h.words s - pointer_count_at h.words s) * 8 / unit_bytes_at h.words s in
-      let zero_whole : whole_units (format_of (header_at h.words s)) (slots_at h.words s) (pointer_count_at h.words s) ≡ 0 = ap (λ b. cond b 0 rest) (eq-eqb (unit_bytes_at h.words s) 0 none) in
-      omega (arith, zero_whole, units_are_so_many)
+    pub unit_node : (value : ℕ) → value < 2 ^ (8 * unit_bytes_of (node_in v s).format)
+        → node_of own_name (heap_store v.words) (body_then v.words s slot (unit_word v.words s i value)) ≡ record (node_in v s) { units = set (node_in v s).units i value }
+    unit_node value range =
+        let u : ℕ = unit_bytes_in v.words s in
+        let fit : value < 2 ^ (8 * u) = subst (λ f. value < 2 ^ (8 * unit_bytes_of f)) fields_are.format range in
+        node_with_unit (heap_store v.words) (body_in v.words s) (formed v.words words_sound s object) i value unit_low fit
+        (set (body_in v.words s).words slot (unit_word v.words s i value))
+        (ap (λ y. set (body_in v.words s).words slot (with_field (8 * (i * u % 8)) (8 * u) y value)) (sym unit_slot))
+        (like v.words s slot (unit_word v.words s i value) (unit_write value))
 
-  -- the units that fill the slots behind the pointers, but for those that are not used
-  pub units_left : (slots count bytes unused : ℕ) → slots ≡ slots_at h.words s → count ≡ pointer_count_at h.words s → bytes ≡ unit_bytes_at h.words s → unused ≡ unused_of (format_of (header_at h.words s))
-      → (bytes ≡ 0 → ⊥) → (unused ≤ (slots - count) * 8 / bytes) × ((slots - count) * 8 / bytes - unused ≡ length (node_in h s).units)
-  units_left slots count bytes unused slots_is count_is_so bytes_is unused_is some =
-      let rest = (slots_at h.words s - pointer_count_at h.words s) * 8 / unit_bytes_at h.words s in
-      let whole : whole_units (format_of (header_at h.words s)) (slots_at h.words s) (pointer_count_at h.words s) ≡ rest =
-      ap (λ b. cond b 0 rest) (ne_eqb (unit_bytes_at h.words s) 0 (λ none. some (bytes_is ∙ none))) in
-      let all : (slots - count) * 8 / bytes ≡ rest =
-      ap (λ n. (n - count) * 8 / bytes) slots_is ∙ (ap (λ n. (slots_at h.words s - n) * 8 / bytes) count_is_so ∙ ap (λ n. (slots_at h.words s - pointer_count_at h.words s) * 8 / n) bytes_is) in
-      both ((slots - count) * 8 / bytes) (all ∙ sym whole)
-    where
-      both : (n : ℕ) → n ≡ whole_units (format_of (header_at h.words s)) (slots_at h.words s) (pointer_count_at h.words s) → (unused ≤ n) × (n - unused ≡ length (node_in h s).units)
-      both n is = (omega (arith, is, unused_is, units_enough), omega (arith, is, unused_is, units_are_so_many))
+-- ---- writing
 
-  module _ (i : ℕ) (low : i < length (node_in h s).units) where
-    unit_low : i < unit_count_at h.words s
-    unit_low = omega (arith, units_are_so_many, low)
+abbrev pub after : View → ℕ → ℕ → View
+after v j w = record v { words = set v.words j w }
 
-    pub unit_size : IsSize (unit_bytes_at h.words s)
-    unit_size = (unit_known h.words s object_within i unit_low).size
+-- the view of the parts with other words, by what was put there
+pub put_after : (p v : View) → p ≡ v → (new : List ℕ) (j w : ℕ) → new ≡ set p.words j w → record p { words = new } ≡ after v j w
+put_after p v same new j w is = ap (λ (ws : List ℕ). let u : View = record p { words = ws } in u) is ∙ ap (λ (u : View). after u j w) same
 
-    pub unit_inside_words : (unit_place h.words s i < length h.words) × (i * unit_bytes_at h.words s < 2 ^ 30)
-    unit_inside_words =
-        let w = object_within in
-        let slot = unit_slot h.words s w i unit_low in
-        (omega (arith, slot, w.end, w.pointers), omega (arith, slot, w.end, sound.few))
+module _ (v : View) (s n w : ℕ) (write : Write v.words s n w) where
+  pub whole_after : IsWhole v → IsWhole (after v (s + 1 + n) w)
+  whole_after whole = record {
+    cut = (sound_kept v.words s n w write).cut;
+    sound = (sound_kept v.words s n w write).sound;
+    clear = clear_kept v.words s n w write whole.clear;
+    held = λ h u e. good_kept v.words s n w write u ∙ whole.held h u e;
+    special_there = reference_kept v.words s n w write v.special ∙ whole.special_there;
+    state_bits = whole.state_bits;
+    header = whole.header;
+    few = (sound_kept v.words s n w write).few;
+  }
 
-    pub place_made : (count bytes : ℕ) → count ≡ pointer_count_at h.words s → bytes ≡ unit_bytes_at h.words s → s + 1 + count + i * bytes / 8 ≡ unit_place h.words s i
-    place_made count bytes count_is_so bytes_is = ap (λ n. s + 1 + n + i * bytes / 8) count_is_so ∙ ap (λ n. s + 1 + pointer_count_at h.words s + i * n / 8) bytes_is
+  pub graph_after : (m : Node) → node_of own_name (heap_store v.words) (body_then v.words s n w) ≡ m → heap_graph (after v (s + 1 + n) w) ≡ with_node (heap_graph v) s m
+  graph_after m is = graph_written v.words s n w write v.special v.handles v.hash ∙ ap (with_node (heap_graph v) s) is
 
-    pub bytes_small : (bytes : ℕ) → bytes ≡ unit_bytes_at h.words s → i * bytes < 2 ^ 30
-    bytes_small bytes is = subst (λ n. i * n < 2 ^ 30) (sym is) unit_inside_words.1
+  pub room_after : heap_room (after v (s + 1 + n) w) ≡ heap_room v
+  room_after = room_kept v.words s n w write v.limits
 
-    pub size_is : (bytes : ℕ) → bytes ≡ unit_bytes_at h.words s → IsSize bytes
-    size_is bytes is = subst (λ n. IsSize n) (sym is) unit_size
-
-    pub unit_value : get_or (node_in h s).units i 0 ≡ field_of (8 * (i * unit_bytes_at h.words s % 8)) (8 * unit_bytes_at h.words s) (get_or h.words (unit_place h.words s i) 0)
-    unit_value = unit_read h.words s object_within i unit_low (value_in h)
-
-    pub unit_got : (bytes at word unit : ℕ) → bytes ≡ unit_bytes_at h.words s → at ≡ unit_place h.words s i → word ≡ get_or h.words at 0
-        → unit ≡ field_of (8 * (i * bytes % 8)) (8 * bytes) word → unit ≡ get_or (node_in h s).units i 0
-    unit_got bytes at word unit bytes_is at_is word_is is =
-        is
-        ∙ (ap (λ n. field_of (8 * (i * n % 8)) (8 * n) word) bytes_is
-        ∙ (ap (field_of (8 * (i * unit_bytes_at h.words s % 8)) (8 * unit_bytes_at h.words s)) (word_is ∙ ap (λ n. get_or h.words n 0) at_is) ∙ sym unit_value))
-
-    -- unit `i` is written
-    module _ (v : ℕ) (range : v < 2 ^ (8 * unit_bytes_of (node_in h s).format)) where
-      fits : v < 2 ^ (8 * unit_bytes_at h.words s)
-      fits = subst (λ n. v < 2 ^ (8 * n)) bytes_are range
-
-      place : IsInside h.words s (unit_place h.words s i)
-      place = place_inside h.words s object_within i unit_low
-
-      own : IsApart h.words s (unit_place h.words s i)
-      own = own_apart h.base h.special h.words s (unit_place h.words s i) v sound.heap there place
-
-      abbrev pub after_unit : Heap
-      after_unit = with_word h (unit_place h.words s i) (with_unit h.words s i v)
-
-      pub unit_put : (bytes at word with_v : ℕ) (new : List ℕ) → bytes ≡ unit_bytes_at h.words s → at ≡ unit_place h.words s i → word ≡ get_or h.words at 0
-          → with_v ≡ with_field (8 * (i * bytes % 8)) (8 * bytes) word v → new ≡ set h.words at with_v → new ≡ after_unit.words
-      unit_put bytes at word with_v new bytes_is at_is word_is is put =
-          let made : with_v ≡ with_unit h.words s i v =
-          is
-          ∙ (ap (λ n. with_field (8 * (i * n % 8)) (8 * n) word v) bytes_is
-          ∙ ap (λ w. with_field (8 * (i * unit_bytes_at h.words s % 8)) (8 * unit_bytes_at h.words s) w v) (word_is ∙ ap (λ n. get_or h.words n 0) at_is)) in
-          put ∙ (ap (λ n. set h.words n with_v) at_is ∙ ap (set h.words (unit_place h.words s i)) made)
-
-      pub unit_goods : (w : ℕ) → IsGoodIn h w → IsGoodIn after_unit w
-      unit_goods = written_goods (unit_place h.words s i) (with_unit h.words s i v) place
-
-      pub unit_sound : IsHeap after_unit
-      unit_sound = written_sound (unit_place h.words s i) (with_unit h.words s i v) place
-          (subst (λ (ws : List ℕ). All (IsGood h.base h.words) ws) (sym (pointer_words_same h.words s object_within i unit_low v fits own)) pointers_good_in)
-
-      pub unit_graph : (handles : FinMap handle_cmp Value) → graph_in after_unit handles ≡ with_node (graph_in h handles) (address h.base s) (record (node_in h s) { units = set (node_in h s).units i v })
-      unit_graph = written_graph (unit_place h.words s i) (with_unit h.words s i v) place (record (node_in h s) { units = set (node_in h s).units i v }) (node_with_unit h.words s object_within i unit_low v fits own (value_in h))
+pub parts_after : (p : HeapParts) → ArePartsOfHeap p → (s n w : ℕ) → Write p.region s n w → (new : List ℕ) → new ≡ set p.region (s + 1 + n) w → ArePartsOfHeap (record p { region = new })
+parts_after p k s n w write new is = subst (λ (ws : List ℕ). ArePartsOfHeap (record p { region = ws })) (sym is) (record {
+  whole = whole_after (view_of p) s n w write k.whole;
+  map = λ t. k.map t ∙ sym (starts_kept p.region s n w write t);
+  covers = k.covers ∙ sym (same_length p.region s n w write);
+  old = k.old ∙ sym (same_length p.region s n w write);
+})

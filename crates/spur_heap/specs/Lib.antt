@@ -1,3 +1,5 @@
-pub mod Heaps
+pub mod Words
 pub mod Sizes
-pub mod Writes
+pub mod Bares
+pub mod Parts
+pub mod Views

@@ -1,22 +1,191 @@
-// The heap.
+// The heap, its tables, and what is found in it from outside.
+ghost use Rattle.std.specs.Prelude.{◌≡◌, ◌≤◌, ◌<◌, ◌↔◌, ◌^◌, ℕ, IsTrue, IsSome, IfSome, IfNone, OnOk, OnErr, IfErr, IsErr, None, length, true, false};
+ghost use Rattle.std.specs.FinMap as map;
+ghost use Rattle.heap_walk.specs.Starts.{has_start, covered};
+ghost use Rattle.spur_graph.specs.declared.answer.Refusal.TheVariants as refusals;
+ghost use Rattle.spur_graph.specs.Refusals.{most_handles};
+ghost use Rattle.spur_graph.specs.Cells.{first};
+ghost use Rattle.spur_graph.specs.Heaps.{heap_value, IsWhole};
+ghost use Rattle.heap_cells.specs.Settled.{word_of};
+ghost use Rattle.spur_heap.specs.Views.{IsGood, adopted, class_word, follows, store};
 
+use crate::bare::Bare;
+use crate::chains::follow_word;
+use crate::classes::class_word;
+use crate::places::{first_word, mark_starts};
+use handle_table::HandleTable;
+use heap_walk::StartMap;
+use spur_graph::{HandleName, Limits, Refusal};
 use spur_words::Region;
+use std::marker::Model;
 
-/// The objects of an image, and what its header says of them.
+/// The parts of a heap.
 #[derive(Drop)]
-pub struct Heap {
-    /// The file address of the first word.
-    pub base: u64,
-    /// The words of the objects, one object after another, with references as file addresses.
-    pub words: Region,
-    /// The reference to the special objects array.
-    pub special: u64,
+pub struct HeapParts {
+    /// All words. A reference is 8 times the index of a header.
+    pub region: Region,
+    /// Where old space ends.
+    pub old_end: usize,
+    /// The starts of objects and forwarders.
+    pub starts: StartMap,
+    /// The words of handles, by mutator and name.
+    pub handles: HandleTable,
     /// The state from which identity hashes are drawn.
     pub hash: u32,
-    /// The address of nil.
-    pub nil: u64,
-    /// The address of false.
-    pub no: u64,
-    /// The address of true.
-    pub yes: u64,
+    /// The word of the special objects array.
+    pub special: u64,
+    /// The 128 bytes of the image's header.
+    pub carried: [u8; 128],
+    /// How large the parts were asked to be.
+    pub limits: Limits,
+}
+
+/// A heap that stands for an object graph.
+#[derive(Drop)]
+pub struct Heap {
+    pub parts: HeapParts,
+}
+
+impl Model for Heap {
+    ghost use Rattle.spur_graph.specs.Heaps.{View};
+    ghost use Rattle.spur_heap.specs.Parts.{view_of, ArePartsOfHeap};
+    ghost use Rattle.spur_heap.specs.Parts.{view_code};
+
+    ghost Value = { View };
+
+    ghost coded = { view_code };
+
+    ghost view = { λ h. view_of h.parts };
+
+    ghost invariant = { λ h. ArePartsOfHeap h.parts };
+}
+
+impl Heap {
+    /// The heap of places that are filled: from now on its words stand for a graph. No handle is bound.
+    pub fn adopt(bare: Bare, special: u64, hash: u32, carried: [u8; 128]) -> Heap
+        requires one_space { (bare.limits.eden ≡ 0) × (bare.limits.survivor ≡ 0) }
+        requires covers { covered bare.starts ≡ length bare.region }
+        requires unmarked { (s : ℕ) → has_start bare.starts s ≡ false }
+        requires unbound { bare.handles ≡ map.empty }
+        requires whole { IsWhole (adopted bare special hash carried) }
+        ensures { result ≡ adopted bare special hash carried }
+    {
+        let Bare {
+            region,
+            mut starts,
+            handles,
+            limits,
+        } = bare;
+        mark_starts(&region, &mut starts);
+        let old_end = region.len();
+        Heap {
+            parts: HeapParts {
+                region,
+                old_end,
+                starts,
+                handles,
+                hash,
+                special,
+                carried,
+                limits,
+            },
+        }
+    }
+
+    /// Every heap is whole.
+    pub fn whole(&self)
+        ensures { IsWhole self.now }
+    {
+        let _parts = &self.parts;
+    }
+
+    /// The word of nil.
+    pub fn nil(&self) -> u64
+        ensures word { result ≡ word_of (first (store self.now) 0) }
+        ensures good { IsGood self.now result }
+    {
+        first_word(&self.parts.region, 0)
+    }
+
+    /// The word of false.
+    pub fn no(&self) -> u64
+        ensures word { result ≡ word_of (first (store self.now) 1) }
+        ensures good { IsGood self.now result }
+    {
+        first_word(&self.parts.region, 1)
+    }
+
+    /// The word of true.
+    pub fn yes(&self) -> u64
+        ensures word { result ≡ word_of (first (store self.now) 2) }
+        ensures good { IsGood self.now result }
+    {
+        first_word(&self.parts.region, 2)
+    }
+
+    /// The word of the special objects array.
+    pub fn special(&self) -> u64
+        ensures word { result ≡ self.now.special }
+        ensures good { IsGood self.now result }
+    {
+        let parts = &self.parts;
+        parts.special
+    }
+
+    /// A word, followed: an immediate stays, a reference is that of the object to which its forwarders lead.
+    pub fn follow(&self, word: u64) -> u64
+        requires good { IsGood self.now word }
+        ensures followed { follows self.now word result }
+        ensures value { heap_value self.now.words result ≡ heap_value self.now.words word }
+        ensures good { IsGood self.now result }
+    {
+        follow_word(&self.parts.region, word)
+    }
+
+    /// The word of the class of an index, followed: that of nil where the class table has no entry there.
+    pub fn class_at(&self, index: u32) -> u64
+        requires index { index < 2 ^ 22 }
+        ensures class { class_word self.now index result }
+        ensures good { IsGood self.now result }
+    {
+        class_word(&self.parts.region, index as usize)
+    }
+
+    /// The word of a handle of this mutator, if it is held.
+    pub fn handle(&self, mutator: u8, name: &HandleName) -> Option<u64>
+        ensures word { result ≡ map.get self.now.handles (mutator, name.now.bytes) }
+        ensures good { IfSome result (IsGood self.now) }
+    {
+        self.parts.handles.get(mutator, name)
+    }
+
+    /// How many handles are held, of all mutators together.
+    pub fn handle_count(&self) -> usize
+        ensures count { result ≡ map.len self.now.handles }
+        ensures most { result ≤ most_handles }
+    {
+        self.parts.handles.len()
+    }
+
+    /// Binds a handle of this mutator, anew or again. [`Refusal::Handles`] where it is new and 65,536 are held; then the heap stays as it was.
+    pub fn bind(&mut self, mutator: u8, name: HandleName, word: u64) -> Result<(), Refusal>
+        requires good { IsGood self.old word }
+        ensures bound { OnOk result (self.new ≡ record self.old { handles = map.insert self.old.handles (mutator, name.bytes) word }) }
+        ensures full { IsErr result ↔ ((map.get self.old.handles (mutator, name.bytes) ≡ None) × (map.len self.old.handles ≡ most_handles)) }
+        ensures fault { IfErr result (λ why. why ≡ refusals.Handles) }
+        ensures same { OnErr result (self.new ≡ self.old) }
+    {
+        match self.parts.handles.bind(mutator, name, word) {
+            Ok(()) => Ok(()),
+            Err(_) => Err(Refusal::Handles),
+        }
+    }
+
+    /// Binds a handle of this mutator no longer, and tells whether it was held.
+    pub fn unbind(&mut self, mutator: u8, name: &HandleName) -> bool
+        ensures held { IsTrue result ↔ IsSome (map.get self.old.handles (mutator, name.now.bytes)) }
+        ensures unbound { self.new ≡ record self.old { handles = map.remove self.old.handles (mutator, name.now.bytes) } }
+    {
+        self.parts.handles.unbind(mutator, name)
+    }
 }

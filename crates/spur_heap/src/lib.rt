@@ -1,16 +1,19 @@
-//! The heap: words in which objects stand, and what is read of them and written to them.
+//! The heap: a region of words that stands for an object graph, and the tables beside it.
 //!
-//! The objects of a heap stand one after another in a region of words, each known by its start, the index of its header word. The layer
-//! above rests on this: whatever is written through a [`Heap`], its words stand for the same graph but for the one slot or unit that was
-//! written, and no other word changes. The layout is Spur's: a header word, pointer slots, and behind these the units of the format.
+//! A [`Heap`] has one invariant: its words are cut into chunks, and these stand for a graph, with each slot, handle and class table entry naming an
+//! ordinary object. The layers above rest on it: whoever is handed a heap may follow any word of it without a test. Forwarders may stand in it; to
+//! follow a word is to go from forwarder to forwarder until an object stands there, the partial read barrier of Miranda and Béra (ISMM 2015). The layout
+//! is that of Spur's 64-bit object memory, with indices of words in place of byte addresses.
 #![tactic(auto)]
 
+mod bare;
+mod chains;
+mod classes;
 mod heap;
 mod objects;
+mod places;
 mod slots;
-#[cfg(test)]
-mod tests;
 mod units;
 
-pub use heap::Heap;
-pub use slots::{pointer_count_of, slots_of};
+pub use bare::Bare;
+pub use heap::{Heap, HeapParts};

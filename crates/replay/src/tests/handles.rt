@@ -37,6 +37,7 @@ fn what_is_not_held_is_unknown(rt: HostRuntime) -> Result<(), Fail> {
         &[
             ("kind q", "! unknown"),
             ("copy a q", "! unknown"),
+            ("class a q", "! unknown"),
             ("drop q", "! unknown"),
             ("int q 1", "ok"),
             ("drop q", "ok"),

@@ -21,7 +21,7 @@ fn a_line_of_no_command_is_refused(rt: HostRuntime) -> Result<(), Fail> {
             ("@ stat", "! syntax"),
             ("stat", "! unsupported"),
             ("@7 gc", "! unsupported"),
-            ("class a b", "! unsupported"),
+            ("hash a", "! unsupported"),
             ("kind q", "! unknown"),
         ],
     )

@@ -1,25 +1,25 @@
-use Rattle.std.proofs.Common.{refl, rules}
-use Rattle.replay.specs.Sessions.{state_of}
+use Rattle.std.proofs.Common.{◌∙◌, refl, rules}
+use Rattle.replay.specs.Sessions.{state_in}
 use Rattle.replay.proofs.Answering.{line_passed, all_passed, part_passed, on_err}
 use Rattle.replay.proofs.runs.answer_piece.Goals as goal
 
 pub returns-in_err-answer_ended-clause-part : goal.returns-in_err-answer_ended-clause-part
 returns-in_err-answer_ended-clause-part g c =
     on_err c.from_residual.result _
-    (part_passed (state_of c.args.session.now) (state_of c.lines.session) (state_of c.answer_ended.new.session) c.args.open_line.now c.lines.open_line c.args.piece.now c.lines.rest.now c.in-Some.line.now c.in-Some.behind.now
+    (part_passed (state_in c.args.session.now.heap) (state_in c.lines.session.heap) (state_in c.answer_ended.new.session.heap) c.args.open_line.now c.lines.open_line c.args.piece.now c.lines.rest.now c.in-Some.line.now c.in-Some.behind.now
     (g.K.Sink.so_far c.args.out.now) (g.K.Sink.so_far c.lines.out) (g.K.Sink.so_far c.answer_ended.new.out) c.in_err-answer_ended.field-0.0 (λ files script. refl) c.in-Some.ensures.whole c.in-Some.ensures.first c.lines.invariant.passed
     c.in_err-answer_ended.ensures.answer)
 
 pub lines-preserved : goal.lines-preserved
 lines-preserved g c = record {
-  sound = c.answer_ended.ensures.sound;
+  run = (c.answer_ended.ensures.run.0 ∙ c.lines.invariant.run.0, c.answer_ended.ensures.run.1 ∙ c.lines.invariant.run.1);
   faults = search rules;
-  passed = line_passed (state_of c.args.session.now) (state_of c.lines.session) (state_of c.answer_ended.new.session) c.args.open_line.now c.lines.open_line c.answer_ended.new.open_line c.args.piece.now c.lines.rest.now c.in-Some.line.now
+  passed = line_passed (state_in c.args.session.now.heap) (state_in c.lines.session.heap) (state_in c.answer_ended.new.session.heap) c.args.open_line.now c.lines.open_line c.answer_ended.new.open_line c.args.piece.now c.lines.rest.now c.in-Some.line.now
       c.in-Some.behind.now (g.K.Sink.so_far c.args.out.now) (g.K.Sink.so_far c.lines.out) (g.K.Sink.so_far c.answer_ended.new.out) c.in_ok-answer_ended.field-0 c.in-Some.ensures.whole c.in-Some.ensures.first c.answer_ended.ensures.none
       c.lines.invariant.passed c.in_ok-answer_ended.ensures.answer;
 }
 
 pub returns-clause-answered : goal.returns-clause-answered
 returns-clause-answered g c =
-    all_passed (state_of c.args.session.now) (state_of c.lines.session) c.args.open_line.now c.lines.open_line c.extend.new.self c.args.piece.now c.lines.rest.now (g.K.Sink.so_far c.args.out.now) (g.K.Sink.so_far c.lines.out)
+    all_passed (state_in c.args.session.now.heap) (state_in c.lines.session.heap) c.args.open_line.now c.lines.open_line c.extend.new.self c.args.piece.now c.lines.rest.now (g.K.Sink.so_far c.args.out.now) (g.K.Sink.so_far c.lines.out)
     c.in_default.ensures.none c.extend.ensures c.lines.invariant.passed

@@ -1,0 +1,14 @@
+pub mod Starting
+pub mod Walks
+pub mod Segmented
+pub mod Placed
+pub mod Enough
+pub mod Shortened
+pub mod Resolving
+pub mod Resolved
+pub mod AtStarts
+pub mod Objects
+pub mod Paging
+pub mod Pointers
+pub mod ClassEntries
+pub mod Same

@@ -1,0 +1,151 @@
+-- Which slots of the hidden roots name pages, while those that are named are taken out of a map of objects.
+use Rattle.std.proofs.Common.{◌≡◌, ◌≢◌, ℕ, suc, zero, Bool, true, false, not, ◌&&◌, ◌||◌, ◌+◌, ◌<◌, eqb, List, [], ◌∷◌, length, get_or, refl, sym, ap, ◌∙◌, arith, inl, inr, Some, None, Option}
+use Rattle.std.proofs.lemmas.Bool.{false≢true, cases_Bool, cases_eq, eq-eqb, ne_eqb, or_parts, or_cases}
+use Rattle.std.specs.List.{list_any}
+use Rattle.spur_graph.specs.Cells.{Store, is_there, first, any_below}
+use Rattle.spur_graph.specs.Ordinary.{page_places, is_at, passes, body_at, root_slot, tells, is_first, is_page_body, is_page, is_internal, is_ordinary, is_bad_page}
+use Rattle.heap_cells.proofs.Below.{any_below-none, any_below-has}
+use Rattle.image_checks.specs.Checked.{AreFirst, AreLeft, is_taken}
+
+-- ---- a list's elements
+
+any_found : (p : ℕ → Bool) (xs : List ℕ) → list_any p xs ≡ true → (k : ℕ) × (k < length xs) × (p (get_or xs k 0) ≡ true)
+any_found p [] e = absurd (false≢true e)
+any_found p (x ∷ xs) e = elim (or_cases (p x) (list_any p xs) e) [
+  | inl here ↦ (0, omega arith, here)
+  | inr there ↦ let r = any_found p xs there in (suc r.0, omega (arith, r.1), r.2)
+]
+
+none_found : (p : ℕ → Bool) (xs : List ℕ) → list_any p xs ≡ false → (k : ℕ) → k < length xs → p (get_or xs k 0) ≡ false
+none_found p [] e k l = absurd (omega arith)
+none_found p (x ∷ xs) e zero l = (or_parts (p x) (list_any p xs) e).0
+none_found p (x ∷ xs) e (suc k) l = none_found p xs (or_parts (p x) (list_any p xs) e).1 k (omega arith)
+
+pub no_start : (o : Option ℕ) → ((s : ℕ) → o ≡ Some s → ⊥) → o ≡ None
+no_start None none = refl
+no_start (Some s) none = absurd (none s refl)
+
+same_tests : (has there body array first listed told inside : Bool) → has ≡ there && not told → (there ≡ true → body ≡ array) → (there ≡ true → inside ≡ true) → listed ≡ first
+    → inside && has && not listed && array ≡ there && body && not first && not told
+same_tests has there body array first listed told inside e b i l = elim (cases_Bool there) [
+  | inl on ↦ rw (e, on, b on, i on, l) (shuffled array first told)
+  | inr off ↦ rw (e, off) (none inside listed array)
+]
+  where
+    shuffled : (a f t : Bool) → true && (true && not t) && not f && a ≡ true && a && not f && not t
+    shuffled true true true = refl
+    shuffled true true false = refl
+    shuffled true false true = refl
+    shuffled true false false = refl
+    shuffled false true true = refl
+    shuffled false true false = refl
+    shuffled false false true = refl
+    shuffled false false false = refl
+
+    none : (i l a : Bool) → i && false && not l && a ≡ false
+    none true l a = refl
+    none false l a = refl
+
+module _ (h : Store) where
+  -- the test of the first five starts is that of their list
+  pub firsts_same : (firsts : List ℕ) (s : ℕ) → AreFirst h firsts → list_any (λ t. eqb t s) firsts ≡ is_first h s
+  firsts_same firsts s f = elim (cases_Bool (list_any (λ t. eqb t s) firsts)) [
+    | inl on ↦
+        let r = any_found (λ t. eqb t s) firsts on in
+        let low : r.0 < 5 = omega (arith, r.1, f.count) in
+        on ∙ sym (any_below-has (λ k. eqb (first h k) s) 5 r.0 low (ap (λ t. eqb t s) (sym (f.is r.0 low)) ∙ r.2))
+    | inr off ↦ off ∙ sym (any_below-none (λ k. eqb (first h k) s) 5 (λ k l. ap (λ t. eqb t s) (sym (f.is k l)) ∙ none_found (λ t. eqb t s) firsts off k (omega (arith, l, f.count))))
+  ]
+
+  -- ---- one slot
+
+  -- it names nothing
+  pub unnamed_bad : (i : ℕ) → h.to (root_slot h i) ≡ None → is_bad_page h i ≡ true
+  unfolding is_page
+  unnamed_bad i e =
+      let test = λ (s : ℕ). is_there (h.cell s) && is_page_body (body_at h s) && not (is_first h s) && not (any_below (λ j. tells h j s) i) in
+      λ x. not (is_at (first h 0) (e x)) && not (passes test (e x))
+
+  -- it names nil
+  pub nil_good : (i s : ℕ) → h.to (root_slot h i) ≡ Some s → s ≡ first h 0 → is_bad_page h i ≡ false
+  nil_good i s e nil = ap (λ b. not b && not (is_page h i)) (ap (is_at (first h 0)) e ∙ eq-eqb s (first h 0) nil)
+
+  -- it names another start, which is that of a page where the test says so
+  pub page_test : (i s : ℕ) → h.to (root_slot h i) ≡ Some s → s ≢ first h 0
+      → is_bad_page h i ≡ not (is_there (h.cell s) && is_page_body (body_at h s) && not (is_first h s) && not (any_below (λ j. tells h j s) i))
+  unfolding is_page
+  page_test i s e other =
+      let test = λ (s : ℕ). is_there (h.cell s) && is_page_body (body_at h s) && not (is_first h s) && not (any_below (λ j. tells h j s) i) in
+      let nil : is_at (first h 0) (h.to (root_slot h i)) ≡ false = ap (is_at (first h 0)) e ∙ ne_eqb s (first h 0) other in
+      λ x. not (nil x) && not (passes test (e x))
+
+  -- the code's test
+  pub free_test : (i s : ℕ) (has : ℕ → Bool) (inside listed array : Bool) → h.to (root_slot h i) ≡ Some s → s ≢ first h 0 → AreLeft h i has
+      → (is_there (h.cell s) ≡ true → is_page_body (body_at h s) ≡ array) → (is_there (h.cell s) ≡ true → inside ≡ true) → listed ≡ is_first h s
+      → is_bad_page h i ≡ not (inside && has s && not listed && array)
+  free_test i s has inside listed array e other left body in_words list =
+      let told = any_below (λ j. tells h j s) i in
+      let now : has s ≡ is_there (h.cell s) && not told = left s ∙ ap (λ b. is_there (h.cell s) && not (not b && told)) (ne_eqb s (first h 0) other) in
+      page_test i s e other ∙ ap not (sym (same_tests (has s) (is_there (h.cell s)) (is_page_body (body_at h s)) array (is_first h s) listed told inside now body in_words list))
+
+  -- ---- what is left behind it
+
+  more_told : (i s : ℕ) → any_below (λ j. tells h j s) (i + 1) ≡ tells h i s || any_below (λ j. tells h j s) i
+  unfolding any_below
+  more_told i s = let e : i + 1 ≡ suc i = omega arith in ap (any_below (λ j. tells h j s)) e
+
+  pub left_nil : (i t : ℕ) (has : ℕ → Bool) → h.to (root_slot h i) ≡ Some t → t ≡ first h 0 → AreLeft h i has → AreLeft h (i + 1) has
+  left_nil i t has e nil left s = left s ∙ ap (λ b. is_there (h.cell s) && not b) (elim (cases_eq s (first h 0)) [
+    | inl same ↦ let off : not (eqb s (first h 0)) ≡ false = ap not (eq-eqb s (first h 0) same) in
+        ap (λ b. b && any_below (λ j. tells h j s) i) off ∙ sym (ap (λ b. b && any_below (λ j. tells h j s) (i + 1)) off)
+    | inr other ↦ ap (λ b. not (eqb s (first h 0)) && b) (sym (more_told i s ∙ ap (λ b. b || any_below (λ j. tells h j s) i) (ap (is_at s) e ∙ ne_eqb t s (λ is. other (sym is ∙ nil)))))
+  ])
+
+  pub left_page : (i t : ℕ) (has now : ℕ → Bool) → h.to (root_slot h i) ≡ Some t → t ≢ first h 0 → AreLeft h i has → now t ≡ false → ((s : ℕ) → s ≢ t → now s ≡ has s) → AreLeft h (i + 1) now
+  left_page i t has now e page left gone others s = elim (cases_eq s t) [
+    | inl same ↦
+        let told : tells h i s ≡ true = ap (is_at s) e ∙ eq-eqb t s (sym same) in
+        let taken : is_taken h (i + 1) s ≡ true = (λ x. not (ne_eqb s (first h 0) (λ is. page (sym same ∙ is)) x) && (more_told i s x)) ∙ ap (λ b. b || any_below (λ j. tells h j s) i) told in
+        ap now same ∙ gone ∙ sym (ap (λ b. is_there (h.cell s) && not b) taken ∙ never (is_there (h.cell s)))
+    | inr other ↦
+        let untold : tells h i s ≡ false = ap (is_at s) e ∙ ne_eqb t s (λ is. other (sym is)) in
+        others s other ∙ left s ∙ ap (λ b. is_there (h.cell s) && not (not (eqb s (first h 0)) && b)) (sym (more_told i s ∙ ap (λ b. b || any_below (λ j. tells h j s) i) untold))
+  ]
+    where
+      never : (b : Bool) → b && not true ≡ false
+      never true = refl
+      never false = refl
+
+  -- at first nothing is taken
+  pub left_all : (has : ℕ → Bool) → ((s : ℕ) → has s ≡ is_there (h.cell s)) → AreLeft h 0 has
+  unfolding any_below
+  left_all has all s = all s ∙ sym (ap (λ b. is_there (h.cell s) && not b) (never (not (eqb s (first h 0)))) ∙ kept (is_there (h.cell s)))
+    where
+      never : (b : Bool) → b && false ≡ false
+      never true = refl
+      never false = refl
+
+      kept : (b : Bool) → b && not false ≡ b
+      kept true = refl
+      kept false = refl
+
+  -- at the end the ordinary objects are left, once the free lists object and the hidden roots are taken out
+  pub left_ordinary : (has one two : ℕ → Bool) (a b : ℕ) → a ≡ first h 3 → b ≡ first h 4 → AreLeft h page_places has
+      → one a ≡ false → ((s : ℕ) → s ≢ a → one s ≡ has s) → two b ≡ false → ((s : ℕ) → s ≢ b → two s ≡ one s) → (s : ℕ) → two s ≡ is_ordinary h s
+  unfolding is_internal
+  left_ordinary has one two a b lists roots left gone others gone_too others_too s = elim (cases_eq s b) [
+    | inl same ↦ ap two same ∙ gone_too ∙ sym ((λ x. is_there (h.cell s) && not (eqb s (first h 3) || eq-eqb s (first h 4) (same ∙ roots) x || is_taken h page_places s)) ∙ never (is_there (h.cell s)) (eqb s (first h 3)) (is_taken h page_places s))
+    | inr other ↦ others_too s other ∙ elim (cases_eq s a) [
+      | inl same ↦ ap one same ∙ gone ∙ sym ((λ x. is_there (h.cell s) && not (eq-eqb s (first h 3) (same ∙ lists) x || eqb s (first h 4) || is_taken h page_places s)) ∙ nowhere (is_there (h.cell s)) (eqb s (first h 4)) (is_taken h page_places s))
+      | inr apart ↦ others s apart ∙ left s ∙ sym (λ x. is_there (h.cell s) && not (ne_eqb s (first h 3) (λ is. apart (is ∙ sym lists)) x || ne_eqb s (first h 4) (λ is. other (is ∙ sym roots)) x || is_taken h page_places s))
+    ]
+  ]
+    where
+      never : (t a b : Bool) → t && not (a || true || b) ≡ false
+      never true true b = refl
+      never true false b = refl
+      never false a b = refl
+
+      nowhere : (t a b : Bool) → t && not (true || a || b) ≡ false
+      nowhere true a b = refl
+      nowhere false a b = refl

@@ -1,0 +1,64 @@
+// The first five chunks of an image.
+ghost use Rattle.std.specs.Prelude.{◌≡◌, ◌<◌, ℕ, List, length, slice_index, IfOk, OnOk};
+ghost use Rattle.spur_graph.specs.ImageCauses.{FindsLeast};
+ghost use Rattle.spur_graph.specs.Segments.{Segment};
+ghost use Rattle.spur_graph.specs.Cells.{first};
+ghost use Rattle.spur_graph.specs.Places.{IsBadRoot, is_bad_root};
+ghost use Rattle.heap_cells.specs.Rows.{AllRead};
+ghost use Rattle.image_checks.specs.Checks.{HasFive};
+ghost use Rattle.spur_graph.specs.FileStores.{file_store};
+
+use crate::head::known_head;
+use object_header::{FORWARDER_CLASS, FREE_CLASS, Head, Header};
+
+/// The place of the free lists object among the chunks.
+const FREE_LISTS: usize = 3;
+
+/// That of the hidden roots.
+const HIDDEN_ROOTS: usize = 4;
+
+/// The greatest format that is no method's.
+const LAST_UNIT_FORMAT: u64 = 23;
+
+/// The format of the hidden roots.
+const ARRAY_FORMAT: u64 = 2;
+
+/// The number of their slots.
+const HIDDEN_ROOTS_SLOTS: usize = 4104;
+
+/// Whether the chunk can't be chunk `k` of the first five.
+fn is_bad_root(k: usize, head: Head) -> bool
+    ensures { result ≡ is_bad_root k head }
+{
+    let header = Header(head.header);
+    let class = header.class();
+    let format = header.format();
+    class == FREE_CLASS
+        || class == FORWARDER_CLASS
+        || (k == FREE_LISTS && format > LAST_UNIT_FORMAT)
+        || (k == HIDDEN_ROOTS && !(format == ARRAY_FORMAT && head.slots == HIDDEN_ROOTS_SLOTS))
+}
+
+/// The starts of the first five chunks: nil, false, true, the free lists object, which has no format of methods, and the hidden roots, an
+/// array of 4,104 slots. The error is the first word of the first of them that is bad, or the end where there are fewer.
+pub fn first_bad_root(words: &[u64]) -> Result<[usize; 5], usize>
+    requires { AllRead words.now 0 (length words.now) }
+    ensures least { FindsLeast (IsBadRoot words.now 0 (length words.now)) result }
+    ensures five { OnOk result ((segs : List Segment) → HasFive (file_store segs words.now)) }
+    ensures starts { IfOk result (λ starts. (segs : List Segment) (k : ℕ) → k < 5 → slice_index starts k ≡ first (file_store segs words.now) k) }
+{
+    let mut starts = [0; 5];
+    let mut at = 0;
+    'roots: for k in 0..5 {
+        if at >= words.len() {
+            return Err(at);
+        }
+        let head = known_head(words, at);
+        if is_bad_root(k, head) {
+            return Err(at);
+        }
+        starts[k] = at + head.lead;
+        at += head.words;
+    }
+    Ok(starts)
+}

@@ -1,0 +1,8 @@
+pub mod Resolved
+pub mod Causes
+pub mod Rows
+pub mod Counted
+pub mod Named
+pub mod Behind
+pub mod Whole
+pub mod Joined

@@ -1,0 +1,32 @@
+-- What resolved forwarders leave as it was.
+use Rattle.std.proofs.Common.{◌≡◌, ℕ, List, length, sym, ◌∙◌}
+use Rattle.heap_walk.specs.declared.starts.StartMap.{StartMap}
+use Rattle.heap_walk.specs.Starts.{has_start, covered}
+use Rattle.spur_graph.specs.Segments.{Segment}
+use Rattle.spur_graph.specs.Chunks.{chunks}
+use Rattle.image_checks.specs.Checks.{IsCut, HasStarts, IsResolved, IsLost}
+use Rattle.spur_graph.specs.FileStores.{file_store}
+use Rattle.image_checks.proofs.Resolved.{keeps-five}
+use Rattle.image_laws.proofs.Resolved.{resolved_is_same}
+use Rattle.image_laws.proofs.Rows.{none_is_lost}
+use Rattle.image_load.specs.Passes.{AreGoodChunks, AreForwarded}
+
+pub forwarded : (segs : List Segment) (old new firsts : List ℕ) (starts : StartMap) → AreGoodChunks segs old firsts → IsResolved (file_store segs old) (file_store segs new)
+    → ((n : ℕ) → IsLost (file_store segs old) n → ⊥) → IsCut segs new → HasStarts (file_store segs new) (has_start starts) → covered starts ≡ length new → chunks new ≡ chunks old → length new ≡ length old
+    → AreForwarded segs old new firsts starts
+forwarded segs old new firsts starts good resolved lost cut marked covers row long =
+    let before = file_store segs old in
+    let now = file_store segs new in
+    let same = resolved_is_same before now resolved (none_is_lost before lost) in
+    record {
+      resolved = resolved;
+      lost = lost;
+      checked = record { cut = cut; covers = covers; starts = marked; resolved = same.direct };
+      first = record {
+        roots = keeps-five before now resolved good.first.roots;
+        count = good.first.count;
+        is = λ k low. good.first.is k low ∙ sym (same.cells.firsts k);
+      };
+      row = row;
+      long = long;
+    }

@@ -1,0 +1,40 @@
+-- What is read of an image, and the errors of its file.
+use Rattle.std.proofs.Common.{◌≡◌, ℕ, List, take, sym, ap, ◌∙◌, subst}
+use Rattle.std.specs.List.{flat_map}
+use Rattle.spur_graph.specs.declared.limits.Limits.{Limits}
+use Rattle.spur_graph.specs.Segments.{Segment, segments, segment_words, all_words, total_words}
+use Rattle.spur_heap.specs.declared.bare.Bare.{Bare}
+use Rattle.image_file.specs.Passed.{Passes}
+use Rattle.image_file.specs.Errors.{IsFault}
+use Rattle.image_file.specs.Whole.{IsFrontOf, last_row}
+use Rattle.image_file.specs.declared.front.Front.{Front}
+use Rattle.image_file.specs.declared.error.FileError.{FileError}
+use Rattle.image_file.specs.declared.error.FileError.TheVariants as file
+use Rattle.image_load.specs.Loaded.{IsCauseOf}
+use Rattle.image_load.specs.Images.{IsImageOf, load_error}
+
+all_are : (bytes : List ℕ) (segs : List Segment) → segs ≡ segments bytes → flat_map (segment_words bytes) segs ≡ all_words bytes
+unfolding all_words
+all_are bytes segs e = ap (flat_map (segment_words bytes)) e
+
+pub image_of : (bytes : List ℕ) (limits : Limits) (f : Front) (bare : Bare) → bare.limits ≡ limits → IsFrontOf bytes limits f → take (total_words f.map) bare.region ≡ flat_map (segment_words bytes) f.map
+    → IsImageOf bytes (record { header = f.header; map = f.map; bare = bare })
+image_of bytes limits f bare same front words = record {
+  special_is = front.header_is.special_is;
+  hash_is = front.header_is.hash_is;
+  map_is = front.map_is;
+  words_are = words ∙ all_are bytes f.map front.map_is;
+  passes = subst (λ l. Passes bytes l last_row) (sym same) front.passes;
+}
+
+-- a fault of the store tells of no cause
+pub fault_told : (bytes : List ℕ) (limits : Limits) (e : FileError) → IsFault e → IsCauseOf bytes limits (load_error e)
+fault_told bytes limits (file.Short n) k = absurd k
+fault_told bytes limits (file.Format n) k = absurd k
+fault_told bytes limits (file.HeaderSize n) k = absurd k
+fault_told bytes limits (file.Base n) k = absurd k
+fault_told bytes limits (file.Large n) k = absurd k
+fault_told bytes limits (file.Segment n) k = absurd k
+fault_told bytes limits (file.End n) k = absurd k
+fault_told bytes limits file.ReadFault k = k
+fault_told bytes limits file.Memory k = k

@@ -1,0 +1,69 @@
+-- An image as it was read, and its objects once they are settled.
+use Rattle.std.specs.Prelude.{ℕ, ◌≡◌, ◌≢◌, ◌+◌, ◌<◌, ◌≤◌, List, length, take, true, false}
+use Rattle.std.specs.FinMap.{empty}
+use Rattle.heap_walk.specs.Starts.{has_start, covered}
+use Rattle.spur_graph.specs.ImageFile.{special_word, last_hash}
+use Rattle.spur_graph.specs.Segments.{Segment, segments, all_words, total_words}
+use Rattle.spur_graph.specs.Chunks.{Cuts, chunks}
+use Rattle.spur_graph.specs.Ordinary.{is_good_reference}
+use Rattle.spur_graph.specs.ImageCauses.{most_words}
+use Rattle.spur_graph.specs.Heaps.{IsCarried}
+use Rattle.heap_segments.specs.Rising.{IsRising}
+use Rattle.heap_cells.specs.Settled.{IsLoadable, settled_word}
+use Rattle.image_checks.specs.Checks.{IsResolved, IsLost}
+use Rattle.spur_graph.specs.FileStores.{file_store}
+use Rattle.image_settle.specs.Rooms.{IsAlone}
+use Rattle.image_file.specs.Passed.{Passes}
+use Rattle.image_file.specs.Whole.{last_row}
+use Rattle.image_file.specs.declared.error.FileError.{FileError}
+use Rattle.image_file.specs.declared.error.FileError.TheVariants as file
+use Rattle.image_load.specs.declared.error.LoadError.{LoadError}
+use Rattle.image_load.specs.declared.error.LoadError.TheVariants as errors
+use Rattle.image_load.specs.declared.image.Image.{Image}
+
+-- the error of a file is told as it is
+abbrev pub load_error : FileError → LoadError
+load_error (file.Short n) = errors.Short n
+load_error (file.Format n) = errors.Format n
+load_error (file.HeaderSize n) = errors.HeaderSize n
+load_error (file.Base n) = errors.Base n
+load_error (file.Large n) = errors.Large n
+load_error (file.Segment n) = errors.Segment n
+load_error (file.End n) = errors.End n
+load_error file.ReadFault = errors.ReadFault
+load_error file.Memory = errors.Memory
+
+-- what was read is of these bytes, to which no cause before those of objects applies
+pub record IsImageOf (bytes : List ℕ) (image : Image) : Type 0 where
+  pub special_is : image.header.special ≡ special_word bytes
+  pub hash_is : image.header.last_hash ≡ last_hash bytes
+  pub map_is : image.map ≡ segments bytes
+  pub words_are : take (total_words image.map) image.bare.region ≡ all_words bytes
+  pub passes : Passes bytes image.bare.limits last_row
+
+-- places of which a heap can be made, with the words of the segments at their front and the room behind them
+pub record IsSoundImage (image : Image) : Type 0 where
+  pub carried : IsCarried image.header.carried
+  pub some : 0 < length image.map
+  pub one_space : (image.bare.limits.eden ≡ 0) × (image.bare.limits.survivor ≡ 0)
+  pub room : image.bare.limits.room ≢ 1
+  pub long : total_words image.map + image.bare.limits.room ≡ length image.bare.region
+  pub few : length image.bare.region ≤ most_words
+  pub covers : covered image.bare.starts ≡ length image.bare.region
+  pub unmarked : (s : ℕ) → has_start image.bare.starts s ≡ false
+  pub unbound : image.bare.handles ≡ empty
+
+-- the words of an image's objects are settled, and the special objects reference is this word of the heap; `mid` are the words with their
+-- forwarders resolved
+pub record AreSettled (segs : List Segment) (old new : List ℕ) (special word : ℕ) : Type 0 where
+  pub mid : List ℕ
+  pub rising : IsRising 0 segs
+  pub cut : Cuts old 0 (length old) (chunks old)
+  pub lost : (n : ℕ) → IsLost (file_store segs old) n → ⊥
+  pub resolved : IsResolved (file_store segs old) (file_store segs mid)
+  pub loadable : IsLoadable (file_store segs mid)
+  pub alone : IsAlone (file_store segs mid) new
+  pub special_there : is_good_reference (file_store segs mid) special ≡ true
+  pub special_word : word ≡ settled_word (file_store segs mid) special
+  pub row : chunks new ≡ chunks old
+  pub long : length new ≡ length old

@@ -1,0 +1,193 @@
+// The passes over the words of an image, in the order of the causes.
+ghost use Rattle.std.specs.Prelude.{◌≡◌, ◌<◌, ◌≤◌, ℕ, List, length, true, IfOk, IfErr, OnOk};
+ghost use Rattle.spur_graph.specs.declared.limits.Limits.{Limits};
+ghost use Rattle.spur_graph.specs.ImageCauses.{BadObject, BadForwarder, BadPage, entry_word, IsAccepted};
+ghost use Rattle.spur_graph.specs.Ordinary.{is_bad_entry};
+ghost use Rattle.image_checks.specs.Checks.{AreOf, IsCut, HasOrdinary};
+ghost use Rattle.spur_graph.specs.FileStores.{file_store};
+ghost use Rattle.image_checks.specs.Checked.{IsChecked, AreFirst, HasPages};
+ghost use Rattle.heap_walk.specs.Starts.{has_start, covered};
+ghost use Rattle.image_load.specs.Loaded.{IsCauseOf};
+ghost use Rattle.image_load.specs.Passes.{TellsFrom, TellsOf, IsNoFault, AreGoodChunks, AreForwarded, HasClasses, HasValues, AreTried, HavePassed};
+
+use crate::LoadError;
+use heap_segments::AddressMap;
+use heap_walk::StartMap;
+use image_checks::{
+    first_bad_entry, first_bad_object, first_bad_root, first_bad_slot, is_good_reference,
+    mark_objects, mark_starts, resolve_forwarders, take_pages,
+};
+use std::alloc::Global;
+
+/// Entries of a class table page.
+const PAGE_ENTRIES: usize = 1024;
+
+/// Where the hidden roots are among the first five chunks.
+const HIDDEN_ROOTS: usize = 4;
+
+/// What was found in the words of an image to which no cause applies.
+#[derive(Drop)]
+pub(crate) struct Found {
+    /// The starts of objects and forwarders.
+    pub starts: StartMap,
+    /// The starts of ordinary objects.
+    pub ordinary: StartMap,
+    /// The starts of the first five chunks.
+    pub firsts: [usize; 5],
+}
+
+/// Reads the chunks, and answers where the first five start. The error is [`LoadError::Object`] or [`LoadError::Roots`].
+fn check_chunks(words: &[u64], map: &AddressMap) -> Result<[usize; 5], LoadError>
+    requires all { AreOf map.now words.now }
+    requires some { 0 < length map.now }
+    ensures chunks { IfOk result (AreGoodChunks map.now words.now) }
+    ensures told { IfErr result (TellsFrom map.now words.now (file_store map.now words.now) BadObject) }
+    ensures fault { IfErr result IsNoFault }
+{
+    match first_bad_object(words, map) {
+        Ok(()) => {}
+        Err(at) => return Err(LoadError::Object(map.offset(at))),
+    }
+    match first_bad_root(words) {
+        Ok(firsts) => Ok(firsts),
+        Err(at) => Err(LoadError::Roots(map.offset(at))),
+    }
+}
+
+/// Marks the starts of objects and forwarders, and has each forwarder name the object to which it leads. The error is
+/// [`LoadError::Forwarder`] or [`LoadError::Memory`].
+fn check_forwarders(
+    alloc: Global,
+    words: &mut [u64],
+    map: &AddressMap,
+    firsts: &[usize],
+) -> Result<StartMap, LoadError>
+    requires all { AreOf map.now words.old }
+    requires some { 0 < length map.now }
+    requires chunks { AreGoodChunks map.now words.old firsts.now }
+    ensures forwarded { IfOk result (AreForwarded map.now words.old words.new firsts.now) }
+    ensures told { IfErr result (TellsFrom map.now words.old (file_store map.now words.old) BadForwarder) }
+    ensures fault { IfErr result IsNoFault }
+    ensures long { length words.new ≡ length words.old }
+{
+    let Ok(mut starts) = StartMap::new(alloc, words.len()) else {
+        return Err(LoadError::Memory);
+    };
+    mark_starts(words, &mut starts);
+    match resolve_forwarders(words, map, &starts) {
+        Ok(()) => Ok(starts),
+        Err(at) => Err(LoadError::Forwarder(map.offset(at))),
+    }
+}
+
+/// The word at which a bad entry of the class table stands.
+fn entry_place(words: &[u64], map: &AddressMap, firsts: &[usize], index: usize) -> usize
+    requires cut { IsCut map.now words.now }
+    requires first { AreFirst (file_store map.now words.now) firsts.now }
+    requires pages { HasPages (file_store map.now words.now) }
+    requires bad { is_bad_entry (file_store map.now words.now) index ≡ true }
+    ensures place { result ≡ entry_word (file_store map.now words.now) index }
+    ensures within { result ≤ length words.now }
+{
+    let place = firsts[HIDDEN_ROOTS] + 1 + index / PAGE_ENTRIES;
+    let page = map.to_region(words[place]).unwrap_or(words.len());
+    page + 1 + index % PAGE_ENTRIES
+}
+
+/// Tests the class table, and answers the starts of ordinary objects. The error is [`LoadError::Class`] or [`LoadError::Memory`].
+fn check_classes(
+    alloc: Global,
+    words: &[u64],
+    map: &AddressMap,
+    starts: &StartMap,
+    firsts: &[usize],
+) -> Result<StartMap, LoadError>
+    requires all { AreOf map.now words.now }
+    requires some { 0 < length map.now }
+    requires checked { IsChecked map.now words.now starts.now }
+    requires first { AreFirst (file_store map.now words.now) firsts.now }
+    ensures classes { IfOk result (HasClasses map.now words.now) }
+    ensures told { IfErr result (λ e. (old : List ℕ) → TellsFrom map.now old (file_store map.now words.now) BadPage e) }
+    ensures fault { IfErr result IsNoFault }
+{
+    let Ok(mut ordinary) = StartMap::new(alloc, words.len()) else {
+        return Err(LoadError::Memory);
+    };
+    mark_objects(words, map, starts, &mut ordinary);
+    match take_pages(words, map, firsts, &mut ordinary) {
+        Ok(()) => {}
+        Err(place) => {
+            return Err(LoadError::Class(map.offset(firsts[HIDDEN_ROOTS] + 1 + place)));
+        }
+    }
+    match first_bad_entry(words, map, starts, &ordinary, firsts) {
+        Ok(()) => Ok(ordinary),
+        Err(index) => Err(LoadError::Class(map.offset(entry_place(words, map, firsts, index)))),
+    }
+}
+
+/// Tests pointers and the special objects reference. The error is [`LoadError::Slot`] or [`LoadError::Special`].
+fn check_values(
+    words: &[u64],
+    map: &AddressMap,
+    starts: &StartMap,
+    ordinary: &StartMap,
+    special: u64,
+) -> Result<(), LoadError>
+    requires all { AreOf map.now words.now }
+    requires some { 0 < length map.now }
+    requires checked { IsChecked map.now words.now starts.now }
+    requires covers { covered ordinary.now ≡ length words.now }
+    requires map { HasOrdinary (file_store map.now words.now) (has_start ordinary.now) }
+    ensures values { OnOk result (HasValues map.now words.now special) }
+    ensures told { IfErr result (λ e. (old : List ℕ) → TellsOf map.now old (file_store map.now words.now) special e) }
+    ensures fault { IfErr result IsNoFault }
+{
+    match first_bad_slot(words, map, starts, ordinary) {
+        Ok(()) => {}
+        Err(at) => return Err(LoadError::Slot(map.offset(at))),
+    }
+    if is_good_reference(words, map, starts, ordinary, special) {
+        Ok(())
+    } else {
+        Err(LoadError::Special(special))
+    }
+}
+
+/// Tests the words of an image's objects and resolves its forwarders. `special` is the image's special objects reference. The
+/// error is the first cause that applies to the words, or [`LoadError::Memory`].
+pub(crate) fn check(
+    alloc: Global,
+    words: &mut [u64],
+    map: &AddressMap,
+    special: u64,
+) -> Result<Found, LoadError>
+    requires all { AreOf map.now words.old }
+    requires some { 0 < length map.now }
+    ensures passed { IfOk result (HavePassed map.now words.old words.new special) }
+    ensures accepted { IfOk result (λ _. (bytes : List ℕ) (limits : Limits) → AreTried bytes limits map.now words.old special → IsAccepted bytes limits) }
+    ensures refused { IfErr result (λ e. (bytes : List ℕ) (limits : Limits) → AreTried bytes limits map.now words.old special → IsCauseOf bytes limits e) }
+    ensures fault { IfErr result IsNoFault }
+    ensures long { length words.new ≡ length words.old }
+{
+    let firsts = match check_chunks(words, map) {
+        Ok(firsts) => firsts,
+        Err(error) => return Err(error),
+    };
+    let starts = match check_forwarders(alloc, words, map, &firsts) {
+        Ok(starts) => starts,
+        Err(error) => return Err(error),
+    };
+    let ordinary = match check_classes(alloc, words, map, &starts, &firsts) {
+        Ok(ordinary) => ordinary,
+        Err(error) => return Err(error),
+    };
+    match check_values(words, map, &starts, &ordinary, special) {
+        Ok(()) => Ok(Found {
+            starts,
+            ordinary,
+            firsts,
+        }),
+        Err(error) => Err(error),
+    }
+}

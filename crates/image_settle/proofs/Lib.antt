@@ -1,0 +1,9 @@
+pub mod Headers
+pub mod Leading
+pub mod Mapped
+pub mod Slots
+pub mod Walking
+pub mod Steps
+pub mod Ready
+pub mod Final
+pub mod Rooms

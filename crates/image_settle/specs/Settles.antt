@@ -1,0 +1,95 @@
+-- What settling starts from, and what its two walks make of each word.
+use Rattle.std.specs.Prelude.{ℕ, ◌≡◌, ◌≢◌, ◌+◌, ◌-◌, ◌^◌, ◌<◌, ◌≤◌, List, take, drop, length, slice_index, true, if◌then◌else◌, nat_eq, nat_lt, Some}
+use Rattle.object_header.specs.Fields.{Fields, fields_of}
+use Rattle.object_header.specs.Head.{class_of}
+use Rattle.object_header.specs.declared.header.TheConstants.{FORWARDER_CLASS}
+use Rattle.heap_walk.specs.declared.starts.StartMap.{StartMap}
+use Rattle.heap_walk.specs.Starts.{has_start, covered}
+use Rattle.spur_graph.specs.Segments.{Segment, word_in}
+use Rattle.spur_graph.specs.Chunks.{Chunk, Cuts, chunks}
+use Rattle.spur_graph.specs.Cells.{Body, Cell, Empty, Moved, There, Store, store_in, cell_from, start_named, pointer_count, first, is_start, is_moved, is_there, is_formed, target_of}
+use Rattle.spur_graph.specs.Ordinary.{body_at, is_ordinary}
+use Rattle.heap_cells.specs.Settled.{IsLoadable, IsNamed, word_of, settled_word, settled_root}
+use Rattle.spur_graph.specs.FileStores.{file_store}
+
+-- the starts of the first five chunks
+pub record AreFirsts (h : Store) (firsts : List ℕ) : Type 0 where
+  pub five : 5 ≤ length firsts
+  pub are : (k : ℕ) → k < 5 → slice_index firsts k ≡ first h k
+
+-- what the checks of an image leave: it can be loaded, the maps have the starts of its objects and forwarders, and those of its ordinary objects,
+-- and each forwarder names the object to which it leads
+pub record IsReady (segs : List Segment) (start_map ordinary_map : StartMap) (firsts words : List ℕ) : Type 0 where
+  pub cut : Cuts words 0 (length words) (chunks words)
+  pub loadable : IsLoadable (file_store segs words)
+  pub named : IsNamed (file_store segs words)
+  pub resolved : (s t : ℕ) → (file_store segs words).cell s ≡ Moved t → is_there ((file_store segs words).cell t) ≡ true
+  pub starts : (s : ℕ) → has_start start_map s ≡ is_start ((file_store segs words).cell s)
+  pub ordinary : (s : ℕ) → has_start ordinary_map s ≡ is_ordinary (file_store segs words) s
+  pub first_five : AreFirsts (file_store segs words) firsts
+  pub covers : (covered start_map ≡ length words) × (covered ordinary_map ≡ length words)
+  pub small : length words ≤ 2 ^ 27
+
+-- some words tell where the words of a store lead, though other words than headers and those of forwarders may be written already
+pub record Leads (h : Store) (segs : List Segment) (start_map : StartMap) (words : List ℕ) : Type 0 where
+  pub to : (w : ℕ) → h.to w ≡ word_in segs 0 w
+  pub names : h.names ≡ length words
+  pub below : (w s : ℕ) → h.to w ≡ Some s → s < h.names
+  pub inside : (s : ℕ) → is_start (h.cell s) ≡ true → s + 1 < h.names
+  pub starts : (s : ℕ) → has_start start_map s ≡ is_start (h.cell s)
+  pub covers : covered start_map ≡ length words
+  pub nil : first h 0 < length words
+  pub small : length words ≤ 2 ^ 27
+  pub moved : (s : ℕ) → is_start (h.cell s) ≡ true → is_moved (h.cell s) ≡ nat_eq (class_of (slice_index words s)) FORWARDER_CLASS
+  pub target : (s : ℕ) → is_moved (h.cell s) ≡ true → target_of (h.cell s) ≡ start_named (word_in segs 0) words (slice_index words (s + 1))
+  pub resolved : (s t : ℕ) → h.cell s ≡ Moved t → is_there (h.cell t) ≡ true
+
+-- the map has the starts of the ordinary objects
+pub record HasOrdinary (h : Store) (ordinary_map : StartMap) : Type 0 where
+  pub has : (s : ℕ) → has_start ordinary_map s ≡ is_ordinary h s
+  pub covers : covered ordinary_map ≡ h.names
+
+-- the word is no header, and not that of a forwarder
+pub record IsLoose (h : Store) (j : ℕ) : Type 0 where
+  pub header : (s : ℕ) → is_start (h.cell s) ≡ true → s ≢ j
+  pub target : (s : ℕ) → is_moved (h.cell s) ≡ true → s + 1 ≢ j
+
+-- the header and the slots of a chunk, and that the slots of an object are loose
+pub record IsNext (h : Store) (words : List ℕ) (header start slots : ℕ) : Type 0 where
+  pub target : ℕ
+  pub cell : h.cell start ≡ cell_from (fields_of header) target (take slots (drop (start + 1) words))
+  pub below : start + 1 < length words
+  pub fits : start + 1 + slots ≤ length words
+  pub formed : is_there (h.cell start) ≡ true → is_formed (body_at h start) ≡ true
+  pub loose : is_there (h.cell start) ≡ true → (j : ℕ) → start < j → j < start + 1 + slots → IsLoose h j
+  pub apart : (s : ℕ) → is_moved (h.cell s) ≡ true → s + 1 ≢ start
+
+-- a header without mark, grey and remembered bit
+abbrev pub unmarked : Fields → Fields
+unmarked f = record f { marked = 0; grey = 0; remembered = 0 }
+
+-- slot `i` of the object at a start
+abbrev pub settled_slot : Store → ℕ → Body → ℕ → ℕ → ℕ
+settled_slot h s b i word =
+    if nat_eq s (first h 4) then settled_root h i word
+    else if nat_eq s (first h 3) then word
+    else if nat_lt i (pointer_count b) then settled_word h word else word
+
+-- slot `i` of what stands at a start; the words of forwarders come last
+abbrev pub slot_in : Store → ℕ → Cell → ℕ → ℕ → ℕ
+slot_in h s Empty i word = word
+slot_in h s (Moved t) i word = word
+slot_in h s (There b) i word = settled_slot h s b i word
+
+-- the first walk makes this of word `j` of a chunk
+pub record IsCleared (h : Store) (old : List ℕ) (c : Chunk) (j new : ℕ) : Type 0 where
+  pub header : j ≡ c.start → fields_of new ≡ unmarked (fields_of (slice_index old j))
+  pub slots : c.start < j → j < c.start + 1 + c.slots → new ≡ slot_in h c.start (h.cell c.start) (j - c.start - 1) (slice_index old j)
+  pub before : j < c.start → new ≡ slice_index old j
+  pub behind : c.start + 1 + c.slots ≤ j → new ≡ slice_index old j
+
+-- the second walk makes this of it
+pub record IsTurned (segs : List Segment) (old : List ℕ) (c : Chunk) (j new : ℕ) : Type 0 where
+  pub target : class_of (slice_index old c.start) ≡ FORWARDER_CLASS → j ≡ c.start + 1 → new ≡ word_of (start_named (word_in segs 0) old (slice_index old j))
+  pub kept : class_of (slice_index old c.start) ≢ FORWARDER_CLASS → new ≡ slice_index old j
+  pub others : j ≢ c.start + 1 → new ≡ slice_index old j

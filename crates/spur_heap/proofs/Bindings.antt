@@ -1,0 +1,52 @@
+-- Handles that are bound and unbound.
+use Rattle.std.proofs.Common.{◌≡◌, ℕ, true, sym, ap, ◌∙◌, inl, inr, Option, Some, None, Result, Ok, Err}
+use Rattle.std.specs.Prelude.{OnOk, OnErr, IfSome}
+use Rattle.std.specs.FinMap.{FinMap, get, insert, remove}
+use Rattle.spur_graph.specs.Graph.{Handle, handle_cmp}
+use Rattle.spur_graph.specs.Ordinary.{is_good_word}
+use Rattle.spur_graph.specs.Heaps.{View, heap_store}
+use Rattle.handle_table.proofs.Bound.{bound_or_before, before_removed}
+use Rattle.spur_heap.specs.declared.heap.HeapParts.{HeapParts}
+use Rattle.spur_heap.specs.Parts.{view_of, ArePartsOfHeap}
+use Rattle.spur_heap.specs.Views.{IsGood}
+
+-- the words of all handles are good
+abbrev AreGood : HeapParts → FinMap handle_cmp ℕ → Type 0
+AreGood p m = (h : Handle) (word : ℕ) → get m h ≡ Some word → is_good_word (heap_store p.region) word ≡ true
+
+module _ (p : HeapParts) (k : ArePartsOfHeap p) where
+  with_handles : (m : FinMap handle_cmp ℕ) → AreGood p m → ArePartsOfHeap (record p { handles = m })
+  with_handles m good = record {
+    whole = record {
+      cut = k.whole.cut;
+      sound = k.whole.sound;
+      clear = k.whole.clear;
+      held = good;
+      special_there = k.whole.special_there;
+      state_bits = k.whole.state_bits;
+      header = k.whole.header;
+      few = k.whole.few;
+    };
+    map = k.map;
+    covers = k.covers;
+    old = k.old;
+  }
+
+  good_bound : (h : Handle) (word : ℕ) → IsGood (view_of p) word → AreGood p (insert p.handles h word)
+  good_bound h word good q v e = elim (bound_or_before p.handles h q word v e) [
+    | inl same ↦ ap (is_good_word (heap_store p.region)) same ∙ good
+    | inr before ↦ k.whole.held q v before
+  ]
+
+  pub bound_parts : {E : Type 0} (r : Result Unit E) (h : Handle) (word : ℕ) (new : FinMap handle_cmp ℕ) → IsGood (view_of p) word
+      → OnOk r (new ≡ insert p.handles h word) → OnErr r (new ≡ p.handles) → ArePartsOfHeap (record p { handles = new })
+  bound_parts (Ok u) h word new good bound same = with_handles new (rw bound (good_bound h word good))
+  bound_parts (Err e) h word new good bound same = with_handles new (rw same k.whole.held)
+
+  pub unbound_parts : (h : Handle) (new : FinMap handle_cmp ℕ) → new ≡ remove p.handles h → ArePartsOfHeap (record p { handles = new })
+  unbound_parts h new is = with_handles new (rw is (λ q v e. k.whole.held q v (before_removed p.handles h q v e)))
+
+-- a handle that is held has a good word
+pub held_good : (v : View) (h : Handle) → ((q : Handle) (word : ℕ) → get v.handles q ≡ Some word → IsGood v word) → (o : Option ℕ) → o ≡ get v.handles h → IfSome o (IsGood v)
+held_good v h held None e = tt
+held_good v h held (Some word) e = held h word (sym e)

@@ -1,0 +1,129 @@
+-- The graph and the room of a store and of the same with other words in one ordinary object.
+use Rattle.std.proofs.Common.{◌≡◌, ◌≢◌, ℕ, Bool, true, cond, not, ◌&&◌, ◌==◌, List, [], ◌∷◌, map, refl, sym, ap, ◌∙◌, inl, inr, Some}
+use Rattle.std.proofs.lemmas.Bool.{false≢true, cases_Bool, cases_eq, and_parts, false_from_ne_true}
+use Rattle.std.proofs.lemmas.List.Elements.{filter_agree}
+use Rattle.std.specs.Option.{unwrap_or}
+use Rattle.std.specs.List.{filter, range_with_len, sum_by, count_by}
+use Rattle.std.specs.Ordering.{nat_cmp, eq_by_cmp}
+use Rattle.std.specs.Cmp.{nat_cmp_total}
+use Rattle.std.specs.FinMap.{FinMap, get, insert, from_entries, find, get-from_entries, get-insert, same_map, nat_cmp-IsAntisymmetric}
+use Rattle.std.specs.FinSet as sets
+use Rattle.spur_graph.specs.declared.answer.Value.TheVariants.{Ref}
+use Rattle.spur_graph.specs.declared.limits.Limits.{Limits}
+use Rattle.spur_graph.specs.Value.{value_of}
+use Rattle.spur_graph.specs.Graph.{handle_cmp, with_node}
+use Rattle.spur_graph.specs.Chunks.{Chunk}
+use Rattle.spur_graph.specs.Cells.{Body, Store, body_of, first, pointers, units}
+use Rattle.spur_graph.specs.Ordinary.{class_limit, page_places, body_at, is_ordinary, ordinary_starts, has_page, entry}
+use Rattle.spur_graph.specs.CellGraph.{read, node_of, nodes_of, has_class, classes_of, graph_of}
+use Rattle.spur_graph.specs.CellRoom.{room_of, free_sizes, spot_of, ascending}
+use Rattle.spur_graph.specs.Heaps.{own_name, handle_values}
+use Rattle.heap_cells.proofs.Bodies.{with_words}
+use Rattle.heap_cells.proofs.Members.{In}
+use Rattle.heap_cells.proofs.Finding.{same_key, key_same}
+use Rattle.spur_heap.proofs.Changing.{changed, Change, cell-here, cell-other, kept, lead-same, reference-same, ordinary-same, internal-same, start-same, nil_slot-same, entry-same, has_class-same}
+
+-- ---- tables
+
+kept_among : (test : ℕ → Bool) (s : ℕ) → test s ≡ true → (ts : List ℕ) → In ts s → In (filter test ts) s
+kept_among test s on [] k = absurd k
+kept_among test s on (t ∷ ts) k = elim (cases_Bool (test t)) [
+  | inl yes_there ↦ rw yes_there (elim k [ inl e ↦ inl e | inr m ↦ inr (kept_among test s on ts m) ])
+  | inr off ↦ rw off (elim k [ inl e ↦ absurd (false≢true (sym off ∙ ap test e ∙ on)) | inr m ↦ kept_among test s on ts m ])
+]
+
+module _ {X : Type 0} (f g : ℕ → X) (s : ℕ) (x : X) (is : g s ≡ x) (others : (t : ℕ) → t ≢ s → g t ≡ f t) where
+  find_other : (k : ℕ) → k ≢ s → (ts : List ℕ) → find nat_cmp k (map (λ t. (t, g t)) ts) ≡ find nat_cmp k (map (λ t. (t, f t)) ts)
+  find_other k n [] = refl
+  find_other k n (t ∷ ts) = elim (cases_Bool (eq_by_cmp nat_cmp k t)) [
+    | inl on ↦ let e : t ≢ s = λ e. n (key_same k t on ∙ e) in
+        ap (λ b. cond b (Some (g t)) (find nat_cmp k (map (λ u. (u, g u)) ts))) on ∙ ap (λ y. Some y) (others t e) ∙ sym (ap (λ b. cond b (Some (f t)) (find nat_cmp k (map (λ u. (u, f u)) ts))) on)
+    | inr off ↦ ap (λ b. cond b (Some (g t)) (find nat_cmp k (map (λ u. (u, g u)) ts))) off ∙ find_other k n ts ∙ sym (ap (λ b. cond b (Some (f t)) (find nat_cmp k (map (λ u. (u, f u)) ts))) off)
+  ]
+
+  find_own : (ts : List ℕ) → In ts s → find nat_cmp s (map (λ t. (t, g t)) ts) ≡ Some x
+  find_own [] k = absurd k
+  find_own (t ∷ ts) k = elim (cases_eq s t) [
+    | inl e ↦ ap (λ b. cond b (Some (g t)) (find nat_cmp s (map (λ u. (u, g u)) ts))) (same_key s t e) ∙ ap (λ u. Some (g u)) (sym e) ∙ ap (λ y. Some y) is
+    | inr n ↦ ap (λ b. cond b (Some (g t)) (find nat_cmp s (map (λ u. (u, g u)) ts))) (false_from_ne_true _ (λ on. n (key_same s t on)))
+        ∙ elim k [ inl e ↦ absurd (n (sym e)) | inr m ↦ find_own ts m ]
+  ]
+
+  -- a table in which one value is another
+  table_changed : (ts : List ℕ) → In ts s → from_entries {R = nat_cmp} (map (λ t. (t, g t)) ts) ≡ insert (from_entries {R = nat_cmp} (map (λ t. (t, f t)) ts)) s x
+  table_changed ts m = same_map nat_cmp_total nat_cmp-IsAntisymmetric (from_entries {R = nat_cmp} (map (λ t. (t, g t)) ts)) (insert (from_entries {R = nat_cmp} (map (λ t. (t, f t)) ts)) s x) (λ k.
+      get-from_entries nat_cmp_total (map (λ t. (t, g t)) ts) k ∙ at k
+      ∙ sym (get-insert nat_cmp_total (from_entries {R = nat_cmp} (map (λ t. (t, f t)) ts)) s x k))
+    where
+      at : (k : ℕ) → find nat_cmp k (map (λ t. (t, g t)) ts) ≡ cond (eq_by_cmp nat_cmp k s) (Some x) (get (from_entries {R = nat_cmp} (map (λ t. (t, f t)) ts)) k)
+      at k = elim (cases_eq k s) [
+        | inl e ↦ ap (λ n. find nat_cmp n (map (λ t. (t, g t)) ts)) e ∙ find_own ts m ∙ sym (ap (λ b. cond b (Some x) (get (from_entries {R = nat_cmp} (map (λ t. (t, f t)) ts)) k)) (same_key k s e))
+        | inr n ↦ find_other k n ts ∙ sym (get-from_entries nat_cmp_total (map (λ t. (t, f t)) ts) k)
+            ∙ sym (ap (λ b. cond b (Some x) (get (from_entries {R = nat_cmp} (map (λ t. (t, f t)) ts)) k)) (false_from_ne_true _ (λ on. n (key_same k s on))))
+      ]
+
+-- functions that agree where a test holds
+map_kept : {X : Type 0} (test : ℕ → Bool) (f g : ℕ → X) → ((j : ℕ) → test j ≡ true → g j ≡ f j) → (js : List ℕ) → map g (filter test js) ≡ map f (filter test js)
+map_kept test f g e [] = refl
+map_kept test f g e (j ∷ js) = elim (cases_Bool (test j)) [
+  | inl on ↦ rw on (λ x. e j on x ∷ map_kept test f g e js x)
+  | inr off ↦ rw off (map_kept test f g e js)
+]
+
+-- ---- the change
+
+module _ {old : Store} {s : ℕ} {b : Body} {ws : List ℕ} (k : Change old s b ws) where
+  pub read-same : (w : ℕ) → read own_name (changed old s (with_words b ws)) w ≡ read own_name old w
+  unfolding read
+  read-same w = λ x. unwrap_or (value_of (λ v. cond (reference-same k v x) (Ref (unwrap_or (lead-same k v x) (first old 0))) (Ref (first old 0))) w) (Ref (first old 0))
+
+  node-same : (c : Body) → node_of own_name (changed old s (with_words b ws)) c ≡ node_of own_name old c
+  unfolding node_of
+  node-same c = λ x. record { class = c.class; hash = c.hash; format = c.format; pointers = map (λ w. read-same w x) (pointers c); units = units c; pinned = c.pinned == 1; readonly = c.readonly == 1 }
+
+  starts-same : ordinary_starts (changed old s (with_words b ws)) ≡ ordinary_starts old
+  unfolding ordinary_starts
+  starts-same = filter_agree (is_ordinary (changed old s (with_words b ws))) (is_ordinary old) (ordinary-same k) old.starts
+
+  nodes-changed : In old.starts s → nodes_of own_name (changed old s (with_words b ws)) ≡ insert (nodes_of own_name old) s (node_of own_name old (with_words b ws))
+  unfolding nodes_of ordinary_starts
+  nodes-changed m =
+      ap (λ ss. from_entries {R = nat_cmp} (map (λ t. (t, node_of own_name (changed old s (with_words b ws)) (body_at (changed old s (with_words b ws)) t))) ss)) starts-same
+      ∙ table_changed (λ t. node_of own_name old (body_at old t)) (λ t. node_of own_name (changed old s (with_words b ws)) (body_at (changed old s (with_words b ws)) t)) s (node_of own_name old (with_words b ws))
+      (node-same (body_at (changed old s (with_words b ws)) s) ∙ ap (λ c. node_of own_name old (body_of c)) (cell-here k))
+      (λ t n. node-same (body_at (changed old s (with_words b ws)) t) ∙ ap (λ c. node_of own_name old (body_of c)) (cell-other k t n))
+      (ordinary_starts old) (kept_among (is_ordinary old) s k.ordinary old.starts m)
+
+  classes-same : classes_of own_name (changed old s (with_words b ws)) ≡ classes_of own_name old
+  unfolding classes_of
+  classes-same = among class_limit
+    where
+      among : (n : ℕ) → from_entries {R = nat_cmp} (map (λ j. (j, read own_name (changed old s (with_words b ws)) (entry (changed old s (with_words b ws)) j))) (filter (has_class (changed old s (with_words b ws))) (range_with_len 0 n))) ≡ from_entries {R = nat_cmp} (map (λ j. (j, read own_name old (entry old j))) (filter (has_class old) (range_with_len 0 n)))
+      among n =
+          ap (λ js. from_entries {R = nat_cmp} (map (λ j. (j, read own_name (changed old s (with_words b ws)) (entry (changed old s (with_words b ws)) j))) js)) (filter_agree (has_class (changed old s (with_words b ws))) (has_class old) (has_class-same k) (range_with_len 0 n))
+          ∙ ap (λ es. from_entries {R = nat_cmp} es) (map_kept (has_class old) (λ j. (j, read own_name old (entry old j))) (λ j. (j, read own_name (changed old s (with_words b ws)) (entry (changed old s (with_words b ws)) j)))
+          (λ j e. let page = (and_parts (has_page old j) _ e).0 in let value : read own_name (changed old s (with_words b ws)) (entry (changed old s (with_words b ws)) j) ≡ read own_name old (entry old j) = read-same (entry (changed old s (with_words b ws)) j) ∙ ap (read own_name old) (entry-same k j page) in λ x. (j, value x)) (range_with_len 0 n))
+
+  pub graph-changed : In old.starts s → (special : ℕ) (held : FinMap handle_cmp ℕ) (hash next : ℕ)
+      → graph_of own_name (changed old s (with_words b ws)) special (handle_values (read own_name (changed old s (with_words b ws))) held) hash next ≡ with_node (graph_of own_name old special (handle_values (read own_name old) held) hash next) s (node_of own_name old (with_words b ws))
+  graph-changed m special held hash next =
+      λ x. record (graph_of own_name old special (handle_values (λ w. read-same w x) held) hash next) { nodes = nodes-changed m x; special = read-same special x; classes = classes-same x }
+
+  pub room-same : (cs : List Chunk) (words : ℕ) (limits : Limits) → room_of own_name (changed old s (with_words b ws)) cs words limits (free_sizes (changed old s (with_words b ws)) cs) ≡ room_of own_name old cs words limits (free_sizes old cs)
+  unfolding room_of
+  room-same cs words limits =
+      let ordinary : (c : Chunk) → is_ordinary (changed old s (with_words b ws)) c.start ≡ is_ordinary old c.start = λ c. ordinary-same k c.start in
+      let pinned : (t : ℕ) → (body_at (changed old s (with_words b ws)) t).pinned ≡ (body_at old t).pinned = kept k (λ c. (body_of c).pinned) refl in
+      λ x. record {
+        old_words = words;
+        eden_words = limits.eden;
+        survivor_words = limits.survivor;
+        spots = from_entries (map (λ (c : Chunk). (c.start, spot_of c)) (filter (λ (c : Chunk). ordinary c x) cs));
+        old_names = sets.from_list (map (λ (c : Chunk). c.start) (filter (λ (c : Chunk). ordinary c x) cs));
+        free = ascending (map (λ (c : Chunk). c.size) (filter (λ (c : Chunk). not (start-same k c.start x)) cs));
+        eden_left = limits.eden;
+        past_used = 0;
+        internal_words = sum_by (λ (c : Chunk). c.size) (filter (λ (c : Chunk). start-same k c.start x && internal-same k c.start x) cs);
+        internal_pinned = count_by (λ (c : Chunk). pinned c.start x == 1) (filter (λ (c : Chunk). start-same k c.start x && internal-same k c.start x) cs);
+        pages = sets.from_list (filter (λ i. not (nil_slot-same k i x)) (range_with_len 0 page_places));
+      }

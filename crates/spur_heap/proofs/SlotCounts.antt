@@ -1,0 +1,92 @@
+-- What the words tell of the slots of an object.
+use Rattle.std.proofs.Common.{◌≡◌, ◌≢◌, ℕ, true, false, cond, ◌+◌, ◌-◌, ◌*◌, ◌/◌, ◌^◌, ◌<◌, ◌≤◌, List, length, get_or, sym, ap, ◌∙◌, arith}
+use Rattle.std.proofs.lemmas.Bool.{eq-eqb, ne_eqb}
+use Rattle.object_header.specs.Formats.{unit_bytes_of, unused_of, pointer_slots_of}
+use Rattle.object_header.specs.Head.{count_of, format_of, literals_of, overflow_slots_of, whole_units}
+use Rattle.spur_graph.specs.Chunks.{leads}
+use Rattle.spur_graph.specs.Cells.{Body, is_formed, pointer_count, unit_count}
+use Rattle.heap_cells.specs.Rows.{slots_at}
+use Rattle.heap_cells.proofs.Bodies.{pointers-same, pointers_fit}
+use Rattle.spur_heap.specs.Words.{AreSound, is_object, body_in, unit_place, unit_bytes_in}
+use Rattle.spur_heap.proofs.ObjectWords.{object_start, object_body, object_slots, object_word, object_inside}
+use Rattle.spur_heap.proofs.UnitRows.{UnitAt, a_unit, unused_fit}
+use Rattle.spur_heap.proofs.Nodes.{method_some}
+
+slots_led : (words : List ℕ) (s : ℕ) → leads (get_or words s 0) ≡ true → slots_at words s ≡ overflow_slots_of (get_or words (s - 1) 0)
+unfolding slots_at
+slots_led words s e = ap (λ b. cond b (overflow_slots_of (get_or words (s - 1) 0)) (count_of (get_or words s 0))) e
+
+slots_own : (words : List ℕ) (s : ℕ) → leads (get_or words s 0) ≡ false → slots_at words s ≡ count_of (get_or words s 0)
+unfolding slots_at
+slots_own words s e = ap (λ b. cond b (overflow_slots_of (get_or words (s - 1) 0)) (count_of (get_or words s 0))) e
+
+module _ (words : List ℕ) (k : AreSound words) (s : ℕ) (there : is_object words s ≡ true) where
+  pub below : s + 1 < length words
+  below = (object_start words k s there).below
+
+  pub formed : is_formed (body_in words s) ≡ true
+  formed = k.sound.formed s there
+
+  pub format_read : (body_in words s).format ≡ format_of (get_or words s 0)
+  format_read = ap (λ (b : Body). b.format) (object_body words k s there)
+
+  pub behind_lead : (count : ℕ) → count ≡ count_of (get_or words s 0) → count ≡ 255 → 1 ≤ s
+  behind_lead count is e = (object_start words k s there).behind (eq-eqb (count_of (get_or words s 0)) 255 (sym is ∙ e))
+
+  pub led_slots : (count : ℕ) → count ≡ count_of (get_or words s 0) → count ≡ 255 → overflow_slots_of (get_or words (s - 1) 0) ≡ length (body_in words s).words
+  led_slots count is e = sym (object_slots words k s there ∙ slots_led words s (eq-eqb (count_of (get_or words s 0)) 255 (sym is ∙ e)))
+
+  pub own_slots : (count : ℕ) → count ≡ count_of (get_or words s 0) → count ≢ 255 → count ≡ length (body_in words s).words
+  own_slots count is n = is ∙ sym (object_slots words k s there ∙ slots_own words s (ne_eqb (count_of (get_or words s 0)) 255 (λ e. n (is ∙ e))))
+
+  pub pointers_within : pointer_count (body_in words s) ≤ length (body_in words s).words
+  pointers_within = pointers_fit (body_in words s) formed
+
+  pub pointer_count_read : (f n l : ℕ) → f ≡ (body_in words s).format → n ≡ length (body_in words s).words → l ≡ literals_of (get_or words (s + 1) 0) → pointer_slots_of f n l ≡ pointer_count (body_in words s)
+  unfolding pointer_count
+  pointer_count_read f n l f_is n_is l_is =
+      (λ x. pointer_slots_of (f_is x) (n_is x) (l_is x))
+      ∙ pointers-same (body_in words s).format (length (body_in words s).words) (literals_of (get_or words (s + 1) 0)) (literals_of (get_or (body_in words s).words 0 0)) (λ m.
+      let some : 0 < pointer_count (body_in words s) = method_some (body_in words s) m in
+      let front : s + 1 + 0 ≡ s + 1 = omega arith in
+      ap literals_of (sym (object_word words k s there 0 (omega (arith, some, pointers_within)) ∙ ap (λ j. get_or words j 0) front)))
+
+  pub no_units : (bytes : ℕ) → bytes ≡ unit_bytes_of (body_in words s).format → bytes ≡ 0 → 0 ≡ unit_count (body_in words s)
+  unfolding unit_count
+  no_units bytes is none =
+      let b : Body = body_in words s in
+      let whole : whole_units b.format (length b.words) (pointer_count b) ≡ 0 = ap (λ t. cond t 0 ((length b.words - pointer_count b) * 8 / unit_bytes_of b.format)) (eq-eqb (unit_bytes_of b.format) 0 (sym is ∙ none)) in
+      omega (arith, whole)
+
+  -- the units that fill the slots behind the pointers, but for those that are not used
+  pub units_left : (slots count bytes unused : ℕ) → slots ≡ length (body_in words s).words → count ≡ pointer_count (body_in words s) → bytes ≡ unit_bytes_of (body_in words s).format → unused ≡ unused_of (body_in words s).format
+      → bytes ≢ 0 → (unused ≤ (slots - count) * 8 / bytes) × ((slots - count) * 8 / bytes - unused ≡ unit_count (body_in words s))
+  unfolding unit_count
+  units_left slots count bytes unused slots_is count_is bytes_is unused_is some =
+      let b : Body = body_in words s in
+      let rest : ℕ = (length b.words - pointer_count b) * 8 / unit_bytes_of b.format in
+      let whole : whole_units b.format (length b.words) (pointer_count b) ≡ rest = ap (λ t. cond t 0 rest) (ne_eqb (unit_bytes_of b.format) 0 (λ none. some (bytes_is ∙ none))) in
+      let all : (slots - count) * 8 / bytes ≡ rest = λ x. (slots_is x - count_is x) * 8 / bytes_is x in
+      both ((slots - count) * 8 / bytes) (whole_units b.format (length b.words) (pointer_count b)) (all ∙ sym whole) (unused_fit b formed) unused_is
+    where
+      both : (n m : ℕ) → n ≡ m → unused_of (body_in words s).format ≤ m → unused ≡ unused_of (body_in words s).format → (unused ≤ n) × (n - unused ≡ m - unused_of (body_in words s).format)
+      both n m is fit same = (omega (arith, is, same, fit), omega (arith, is, same))
+
+  module _ (i : ℕ) (low : i < unit_count (body_in words s)) where
+    pub unit_at_place : UnitAt (body_in words s) i
+    unit_at_place = a_unit (body_in words s) formed i low
+
+    pub place_inside : unit_place words s i < length words
+    place_inside = let u = unit_at_place in let far = object_inside words k s there (pointer_count (body_in words s) + i * unit_bytes_in words s / 8) u.inside in omega (arith, far)
+
+    pub place_small : i * unit_bytes_in words s < 2 ^ 30
+    place_small =
+        let u = unit_at_place in
+        let slots = object_slots words k s there in
+        let fits = (object_start words k s there).fits in
+        let few = k.few in
+        omega (arith, u.small, slots, fits, few)
+
+    -- the place, by what was read
+    pub place_made : (count bytes : ℕ) → count ≡ pointer_count (body_in words s) → bytes ≡ unit_bytes_in words s → s + 1 + count + i * bytes / 8 ≡ unit_place words s i
+    place_made count bytes count_is bytes_is = λ x. s + 1 + count_is x + i * bytes_is x / 8

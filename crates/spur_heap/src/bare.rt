@@ -1,0 +1,50 @@
+// The places and tables of a heap before its words are there.
+ghost use Rattle.std.specs.Prelude.{◌≡◌, ◌+◌, ◌*◌, ◌^◌, ◌≤◌, ℕ, IfOk, length, replicate, false};
+ghost use Rattle.std.specs.FinMap as map;
+ghost use Rattle.heap_walk.specs.Starts.{has_start, covered};
+ghost use Rattle.spur_heap.specs.Bares.{room_of};
+
+use handle_table::HandleTable;
+use heap_walk::StartMap;
+use spur_graph::Limits;
+use spur_words::{NoMemory, Region};
+use std::alloc::Global;
+
+/// The places and tables of a heap, to be filled: not yet a heap.
+#[derive(Drop)]
+pub struct Bare {
+    /// All words: old space, eden, and the two survivor spaces.
+    pub region: Region,
+    /// The starts of objects and forwarders: none.
+    pub starts: StartMap,
+    /// The handles: none.
+    pub handles: HandleTable,
+    /// How large the parts were asked to be.
+    pub limits: Limits,
+}
+
+impl Bare {
+    /// Places of `old_words` words of old space, the free chunk behind its objects among them, and of what the limits ask for besides, at most 2^27
+    /// words together; all are 0. [`NoMemory`] where they are not to be had.
+    pub fn new(alloc: Global, old_words: usize, limits: Limits) -> Result<Bare, NoMemory>
+        requires few { room_of old_words limits ≤ 2 ^ 27 }
+        ensures zeros { IfOk result (λ bare. bare.region ≡ replicate (room_of old_words limits) 0) }
+        ensures covers { IfOk result (λ bare. covered bare.starts ≡ room_of old_words limits) }
+        ensures unmarked { IfOk result (λ bare. (s : ℕ) → has_start bare.starts s ≡ false) }
+        ensures unbound { IfOk result (λ bare. bare.handles ≡ map.empty) }
+        ensures limits { IfOk result (λ bare. bare.limits ≡ limits) }
+    {
+        let words = old_words + limits.eden + 2 * limits.survivor;
+        let region = Region::new(alloc, words)?;
+        let starts = StartMap::new(alloc, words)?;
+        let Ok(handles) = HandleTable::new(alloc) else {
+            return Err(NoMemory);
+        };
+        Ok(Bare {
+            region,
+            starts,
+            handles,
+            limits,
+        })
+    }
+}
