@@ -48,8 +48,8 @@ fn header(count: u64, format: u64, class: u64) -> u64 {
     count << 56 | format << 24 | class
 }
 
-/// A store with the base image and a second segment of 18 words behind it, 1,000 words on: an array, a free chunk, a weak object and a
-/// byte object.
+/// A store with the base image and a second segment of 18 words behind it, 1,000 words on: an array, a free chunk, an object of format 3
+/// with two slots of no value, and an object-stack page.
 fn two_segments(alloc: Global) -> Result<MemoryFiles, Fail> {
     let mut files = store(alloc, "")?;
     // the length of the heap
@@ -123,6 +123,71 @@ fn headers_are_refused(rt: HostRuntime) -> Result<(), Fail> {
 }
 
 #[test]
+fn each_cause_is_told(rt: HostRuntime) -> Result<(), Fail> {
+    // Bytes of the base image that are changed at a place, and the first cause.
+    let rows: [(usize, &[u8], &str); 8] = [
+        (4, &[64], "image: header 64\n"),
+        (16, &[1], "image: base 1048577\n"),
+        // 2^60 + 2^20
+        (23, &[16], "image: base 1152921504607895552\n"),
+        (72, &[12, 0], "image: segment 0\n"),
+        // false's header stands where the first bridge tells the next segment's size: 33 bytes
+        (72, &[24, 0], "image: segment 1\n"),
+        // nil is a free chunk, then the hidden roots have another format: the place is that of their overflow word
+        (128, &[0], "image: roots 128\n"),
+        (707, &[1], "image: roots 696\n"),
+        (24, &[4, 0, 0x10], "image: special 1048580\n"),
+    ];
+    'rows: for (at, bytes, line) in rows {
+        let mut files = patched(rt.alloc(), at, bytes)?;
+        check_refused(&rt, rt.alloc(), &mut files, line)?;
+    }
+    Ok(())
+}
+
+#[test]
+fn the_first_of_two_causes_is_told(rt: HostRuntime) -> Result<(), Fail> {
+    // a slot and the special objects reference are both bad
+    let mut files = patched(rt.alloc(), 24, &[4, 0, 0x10])?;
+    patch(rt.alloc(), &mut files, SPECIAL_SLOT, &[0x10, 0xc4])?;
+    check_refused(&rt, rt.alloc(), &mut files, "image: slot 50320\n")
+}
+
+#[test]
+fn forwarders_do_not_lead_to_themselves(rt: HostRuntime) -> Result<(), Fail> {
+    // a class is a forwarder to itself
+    let mut files = patched(rt.alloc(), 50_280, &[8])?;
+    patch(rt.alloc(), &mut files, 50_288, &[0xe8, 0xc3, 0x10])?;
+    check_refused(&rt, rt.alloc(), &mut files, "image: forwarder 50288\n")
+}
+
+#[test]
+fn bytes_behind_the_last_segment_are_told(rt: HostRuntime) -> Result<(), Fail> {
+    let mut files = patched(rt.alloc(), 8, &50_304u64.to_le_bytes())?;
+    files.append("base.image", &[0; 16])?;
+    check_refused(&rt, rt.alloc(), &mut files, "image: end 16\n")
+}
+
+#[test]
+fn forwarders_are_followed(rt: HostRuntime) -> Result<(), Fail> {
+    // the class of index 56 is a forwarder to the one of index 55
+    let mut files = patched(rt.alloc(), 50_280, &[8])?;
+    patch(rt.alloc(), &mut files, 50_288, &[0xc8, 0xc3, 0x10])?;
+    check_rows(
+        &rt,
+        rt.alloc(),
+        &mut files,
+        &[
+            ("special s", "ok"),
+            ("fetch a s 8", "ok"),
+            ("fetch b s 7", "ok"),
+            ("same a b", "true"),
+            ("kind a", "object 32 1"),
+        ],
+    )
+}
+
+#[test]
 fn without_its_length_the_first_segment_is_the_heap(rt: HostRuntime) -> Result<(), Fail> {
     let mut files = patched(rt.alloc(), 72, &[0; 8])?;
     check(&rt, rt.alloc(), &mut files, Status::Done, FIRST_ANSWERS)
@@ -135,7 +200,7 @@ fn slots_name_ordinary_objects(rt: HostRuntime) -> Result<(), Fail> {
     check_refused(&rt, rt.alloc(), &mut files, "image: slot 50320\n")?;
     let mut files = patched(rt.alloc(), SPECIAL_SLOT, &1_082_000u64.to_le_bytes())?;
     check_refused(&rt, rt.alloc(), &mut files, "image: slot 50320\n")?;
-    // a weak object's slot reads as nil then
+    // in an object of format 3 a slot without a value reads as nil
     let mut files = patched(rt.alloc(), SPECIAL_SLOT, &1_098_768u64.to_le_bytes())?;
     patch(rt.alloc(), &mut files, SPECIAL_FORMAT, &[3])?;
     check_rows(
