@@ -1,21 +1,17 @@
 -- The map that handles and their words make.
-use Rattle.std.proofs.Common.{◌≡◌, ◌≢◌, ◌<◌, ℕ, zero, suc, ◌+◌, ◌-◌, Bool, true, false, cond, List, [], ◌∷◌, ◌++◌, length, slice_index, slice_set, swap_remove, is_some, Option, None, Some, ◌⊎◌, ◌↔◌, ◌==◌, IsTrue, refl, sym, ap, ◌∙◌, inl, inr, arith, true≢false}
-use Rattle.std.specs.List.{zip}
-use Rattle.std.specs.Ordering.{nat_cmp, eq_by_cmp}
-use Rattle.std.specs.FinMap.{FinMap, get, insert, remove, len, empty, from_entries, same_map, get-insert, get-remove, get-empty, get-from_entries, len-insert, len-empty, empty_of_len, from_entries_push, IsAntisymmetric, nat_cmp-IsAntisymmetric, slice_cmp-IsAntisymmetric}
+use Rattle.std.proofs.Common.{◌≡◌, ◌≢◌, ◌<◌, ℕ, zero, suc, ◌+◌, ◌-◌, Bool, true, false, cond, List, [], ◌∷◌, ◌++◌, length, slice_index, slice_set, swap_remove, is_some, Option, None, Some, ◌⊎◌, ◌↔◌, ◌==◌, IsTrue, refl, sym, ap, ◌∙◌, inl, inr, arith, subst, true≢false}
+use Rattle.std.specs.List.{All, zip}
+use Rattle.std.specs.Ordering.{eq_by_cmp}
+use Rattle.std.specs.FinMap.{FinMap, get, insert, remove, len, empty, from_entries, same_map, get-insert, get-remove, get-empty, get-from_entries, len-insert, len-empty, empty_of_len, from_entries_push}
 use Rattle.std.proofs.lemmas.List.{get_or-set_same, get_or-set_other, length-set}
-use Rattle.std.proofs.lemmas.Map.Lookups.{exact_pairs}
 use Rattle.std.proofs.lemmas.Bool.{cases_eq, eq-eqb, ne_eqb, false≢true}
 use Rattle.std.proofs.lemmas.Cmp.{eq_by_cmp_equiv}
 use Rattle.std.specs.Cmp.{Equal-is}
 use Rattle.handle_table.proofs.SwapRemove.{StoodAt, StandsAt, stood_at, stands_at, apart-swap_remove, length-swap_remove}
+use Rattle.spur_graph.proofs.HandleMaps.{exact_handles}
 use Rattle.spur_graph.specs.Graph.{Handle, handle_cmp}
 use Rattle.spur_graph.specs.Handles.{handles_total}
 use Rattle.handle_table.specs.Handles.{no_handle, handle_at, AreDistinct, IsAbsent, IsHeldAt, bound}
-
--- handles that compare alike are one
-pub exact_handles : IsAntisymmetric handle_cmp
-exact_handles = exact_pairs nat_cmp _ nat_cmp-IsAntisymmetric (slice_cmp-IsAntisymmetric nat_cmp-IsAntisymmetric)
 
 abbrev is_handle : Handle → Handle → Bool
 is_handle = eq_by_cmp handle_cmp
@@ -189,4 +185,16 @@ pub is_empty_map : (m : FinMap handle_cmp ℕ) (n : ℕ) → n ≡ len m → IsT
 is_empty_map m n e = elim (cases_eq n 0) [
   | inl z ↦ ((λ _. empty_of_len m (sym e ∙ z)), (λ _. eq-eqb n 0 z))
   | inr z ↦ ((λ t. absurd (false≢true (sym (ne_eqb n 0 z) ∙ t))), (λ is. absurd (z (e ∙ ap len is ∙ len-empty handle_cmp ℕ))))
+]
+
+-- a word that a handle has is one of the words
+pub bound-below : (most : ℕ) (ks : List Handle) (ws : List ℕ) (q : Handle) (v : ℕ) → All (λ w. w < most) ws → get (bound ks ws) q ≡ Some v → v < most
+bound-below most [] ws q v all e = absurd (no_some e (get-empty handle_cmp q))
+bound-below most (k ∷ ks) [] q v all e = absurd (no_some e (get-empty handle_cmp q))
+bound-below most (k ∷ ks) (w ∷ ws) q v all e = elim (handle_cases q k) [
+  | inl c ↦
+      let same : Some w ≡ Some v = sym (get-insert_same (bound ks ws) k w) ∙ ap (get (insert (bound ks ws) k w)) (sym c.0) ∙ e in
+      let is : w ≡ v = cc in
+      subst (λ x. x < most) is (all 0 0 (omega arith))
+  | inr c ↦ bound-below most ks ws q v (λ j d l. all (suc j) d (omega (arith, l))) (sym (get-insert_other (bound ks ws) k w q c.0) ∙ e)
 ]

@@ -1,9 +1,10 @@
 // The table of handles and their words.
-ghost use Rattle.std.specs.Prelude.{◌≡◌, ◌≤◌, ◌↔◌, IsTrue, IsSome, IsErr, IfOk, OnOk, OnErr, None};
+ghost use Rattle.std.specs.Prelude.{◌≡◌, ◌<◌, ◌≤◌, ◌^◌, ◌↔◌, ℕ, IsTrue, IsSome, IsErr, IfOk, OnOk, OnErr, Some, None};
 ghost use Rattle.std.specs.FinMap as map;
+ghost use Rattle.spur_graph.specs.Graph.{Handle};
 
 use crate::index::{Entered, Index, MOST_HANDLES};
-use spur_graph::HandleName;
+use spur_graph::{HandleName, words_fit};
 use std::alloc::Global;
 use std::marker::Model;
 
@@ -67,6 +68,13 @@ impl HandleTable {
         ensures { IsTrue result ↔ (self.now ≡ map.empty) }
     {
         self.len() == 0
+    }
+
+    /// Each word that is held has 64 bits.
+    pub fn held_fit(&self)
+        ensures { (held : Handle) (word : ℕ) → map.get self.now held ≡ Some word → word < 2 ^ 64 }
+    {
+        words_fit(self.words.as_slice());
     }
 
     /// The word of a handle of this mutator, if it is held.

@@ -13,13 +13,13 @@ use Rattle.heap_cells.proofs.Writing.{row-kept, keeps-same, cell-same}
 
 -- ---- a chunk at another place
 
-moved_start : (n w : ℕ) → (chunk_of n w).start ≡ n + (chunk_of 0 w).start
+pub shifted_start : (n w : ℕ) → (chunk_of n w).start ≡ n + (chunk_of 0 w).start
 unfolding chunk_of
-moved_start n w = elim (cases_Bool (leads w)) [ inl is ↦ rw is (omega arith) | inr not ↦ rw not (omega arith) ]
+shifted_start n w = elim (cases_Bool (leads w)) [ inl is ↦ rw is (omega arith) | inr not ↦ rw not (omega arith) ]
 
-moved_size : (n w : ℕ) → (chunk_of n w).size ≡ (chunk_of 0 w).size
+pub shifted_size : (n w : ℕ) → (chunk_of n w).size ≡ (chunk_of 0 w).size
 unfolding chunk_of
-moved_size n w = refl
+shifted_size n w = refl
 
 -- ---- words that go on behind a chunk
 
@@ -89,9 +89,9 @@ appended to words room cs t free named =
     let at : c.at ≡ n = chunk_of-at n w in
     let n0 : n + 0 ≡ n = omega arith in
     let first : get_or new n 0 ≡ w = ap (λ k. get_or new k 0) (sym n0) ∙ get_or-append-add words room 0 0 in
-    let head : get_or new c.start 0 ≡ get_or room (chunk_of 0 w).start 0 = ap (λ k. get_or new k 0) (moved_start n w) ∙ get_or-append-add words room (chunk_of 0 w).start 0 in
+    let head : get_or new c.start 0 ≡ get_or room (chunk_of 0 w).start 0 = ap (λ k. get_or new k 0) (shifted_start n w) ∙ get_or-append-add words room (chunk_of 0 w).start 0 in
     let chunk : IsChunk new n c = record { is = ap (chunk_of n) (sym first); twice = ap leads head ∙ free.twice ∙ ap leads (sym first) } in
-    let end : n + c.size ≡ length new = ap (λ k. n + k) (moved_size n w ∙ free.size) ∙ sym (length-append words room) in
+    let end : n + c.size ≡ length new = ap (λ k. n + k) (shifted_size n w ∙ free.size) ∙ sym (length-append words room) in
     let kept = row-kept words new 0 n cs t (λ d m.
     let s = stands words 0 n cs d t m in
     keeps-same words new d (get_or_append_left words room 0 d.at (omega (arith, s.lies.lead, s.lies.room, s.lies.before))) (get_or_append_left words room 0 d.start (omega (arith, s.lies.room, s.lies.before)))) in

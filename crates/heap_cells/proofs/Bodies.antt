@@ -1,6 +1,7 @@
 -- What a body with other words has in common with the body.
 use Rattle.std.proofs.Common.{◌≡◌, ℕ, Bool, true, false, cond, not, ◌&&◌, ◌||◌, ◌+◌, ◌-◌, ◌%◌, ◌<◌, ◌≤◌, eqb, ltb, List, map, drop, length, get_or, sym, ap, ◌∙◌, arith, inl, inr}
 use Rattle.std.proofs.lemmas.Bool.{cases_lt, lt-ltb, le-ltb, and_parts, eqb-true, ltb-true}
+use Rattle.std.proofs.lemmas.Bool.Decides.{nat_tests}
 use Rattle.std.specs.List.{range_with_len}
 use Rattle.object_header.specs.Field.{field_of}
 use Rattle.object_header.specs.Formats.{unit_bytes_of, unused_of, is_method, pointer_slots_of}
@@ -99,3 +100,11 @@ pointers_fit b f = elim (cases_lt b.format 24) [
 pub all_pointers : (b : Body) → b.format < 6 → pointer_count b ≡ length b.words
 unfolding pointer_count
 all_pointers b l = ap (λ t. cond t (length b.words) (cond (ltb b.format 24) 0 (literals_of (get_or b.words 0 0) + 1))) (lt-ltb b.format 6 l)
+
+-- a method has a pointer slot at least
+pub method_some : (b : Body) → 24 ≤ b.format → 0 < pointer_count b
+unfolding pointer_count
+method_some b l = some b.format (length b.words) (literals_of (get_or b.words 0 0)) (lt-ltb 23 b.format (omega arith))
+  where
+    some : (f n m : ℕ) → is_method f ≡ true → 0 < pointer_slots_of f n m
+    some f n m method = grind (arith, nat_tests, method)

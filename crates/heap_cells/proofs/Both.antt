@@ -1,13 +1,14 @@
 -- What settling keeps of the cells, and that chains are the same.
-use Rattle.std.proofs.Common.{◌≡◌, ◌≢◌, ℕ, suc, zero, true, false, not, ◌&&◌, ◌%◌, ◌<◌, ◌≤◌, eqb, drop, length, get_or, refl, sym, ap, ◌∙◌, arith, inl, inr}
-use Rattle.std.proofs.lemmas.Bool.{false≢true, cases_eq, cases_Bool, eq-eqb, ne_eqb, not-false, or_left, cond-true, cond-false}
+use Rattle.std.proofs.Common.{◌≡◌, ◌≢◌, ℕ, suc, zero, true, false, ◌%◌, ◌<◌, ◌≤◌, eqb, drop, length, get_or, refl, sym, ap, ◌∙◌, arith, inl, inr}
+use Rattle.std.proofs.lemmas.Bool.{false≢true, cases_eq, cases_Bool, eq-eqb, ne_eqb, or_left, cond-true, cond-false}
 use Rattle.std.proofs.lemmas.List.{get_or_append_left}
 use Rattle.spur_graph.specs.Value.{is_immediate_word}
 use Rattle.spur_graph.specs.Chains.{follow}
 use Rattle.spur_graph.specs.Cells.{Body, Cell, Empty, Moved, There, Store, is_start, is_moved, is_there, target_of, body_of, is_formed, pointer_count, first, final}
 use Rattle.spur_graph.specs.Ordinary.{body_at}
 use Rattle.heap_cells.specs.Settled.{map_front, map_from, settled_word, settled_root, settled_words, settled_cell, IsLoadable, IsNamed, IsSettled}
-use Rattle.heap_cells.proofs.Chains.{follow-end, follow-step, follow-none, follow-more, follow-same}
+use Rattle.heap_cells.proofs.CellKinds.{there_starts, there_is_not_moved, moved_starts}
+use Rattle.heap_cells.proofs.Chains.{follow-end, follow-step, follow-none, follow-more, follow-same, good_forwarder_ends, final-end}
 use Rattle.heap_cells.proofs.Fronts.{length-front, length-from, front-first, drop-front}
 use Rattle.heap_cells.proofs.Bodies.{IsLike, with_words, first_tag, is_formed-same, pointer_count-same}
 
@@ -41,21 +42,6 @@ settled_body : (h : Store) (s : ℕ) (c : Cell) → is_there c ≡ true → body
 settled_body h s Empty e = absurd (false≢true e)
 settled_body h s (Moved t) e = absurd (false≢true e)
 settled_body h s (There b) e = refl
-
-there_stays : (c : Cell) → is_there c ≡ true → is_moved c ≡ false
-there_stays Empty e = refl
-there_stays (Moved t) e = absurd (false≢true e)
-there_stays (There b) e = refl
-
-pub there_starts : (c : Cell) → is_there c ≡ true → is_start c ≡ true
-there_starts Empty e = absurd (false≢true e)
-there_starts (Moved t) e = absurd (false≢true e)
-there_starts (There b) e = refl
-
-still_starts : (c : Cell) → is_moved c ≡ true → is_start c ≡ true
-still_starts Empty e = absurd (false≢true e)
-still_starts (Moved t) e = refl
-still_starts (There b) e = absurd (false≢true e)
 
 -- the words of an object by what it is
 pub words-lists : (h : Store) (s : ℕ) (b : Body) → s ≢ first h 4 → s ≡ first h 3 → settled_words h s b ≡ b.words
@@ -99,25 +85,15 @@ module _ {old new : Store} (k : Both old new) where
   pub first-five : (j : ℕ) → j < 5 → first new j ≡ first old j
   first-five j l = let m : 5 ≤ length old.starts = k.loadable.five in first-same j (omega arith)
 
-  pub apart : (i j : ℕ) → i < j → j < 5 → first old i ≢ first old j
-  apart i j l m e = let five : 5 ≤ length old.starts = k.loadable.five in let a : first old i < first old j = k.named.rising i j l (omega arith) in omega arith
-
   -- the chain of a forwarder ends in an object
   pub ends_there : (s : ℕ) → is_moved (old.cell s) ≡ true → is_there (old.cell (final old s)) ≡ true
-  ends_there s e = not-false _ (sym (ap (λ b. b && not (is_there (old.cell (final old s)))) e) ∙ k.loadable.ends s)
-
-  pub final-end : (h : Store) (s : ℕ) → is_moved (h.cell s) ≡ false → final h s ≡ s
-  unfolding final
-  final-end h s e = follow-end (λ t. is_moved (h.cell t)) (λ t. target_of (h.cell t)) h.names s e
-
-  pub final-there : (h : Store) (s : ℕ) → is_there (h.cell s) ≡ true → final h s ≡ s
-  final-there h s e = final-end h s (there_stays (h.cell s) e)
+  ends_there s e = good_forwarder_ends old s (k.loadable.ends s) e
 
   pub final-same : (s : ℕ) → final new s ≡ final old s
   unfolding final
   final-same s = elim (cases_Bool (is_moved (old.cell s))) [
     | inl on ↦
-        let end : is_moved (old.cell (final old s)) ≡ false = there_stays (old.cell (final old s)) (ends_there s on) in
+        let end : is_moved (old.cell (final old s)) ≡ false = there_is_not_moved (old.cell (final old s)) (ends_there s on) in
         follow-same (λ t. is_moved (new.cell t)) (λ t. is_moved (old.cell t)) (λ t. target_of (new.cell t)) (λ t. target_of (old.cell t)) moved-same target-same new.names s
         ∙ follow-more (λ t. is_moved (old.cell t)) (λ t. target_of (old.cell t)) old.names new.names s k.settled.names end
     | inr off ↦ final-end new s (moved-same s ∙ off) ∙ sym (final-end old s off)
@@ -129,7 +105,7 @@ module _ {old new : Store} (k : Both old new) where
   target_starts s on = elim (cases_Bool (is_there (old.cell t))) [
     | inl there ↦ there_starts (old.cell t) there
     | inr none ↦ elim (cases_Bool (is_moved (old.cell t))) [
-      | inl more ↦ still_starts (old.cell t) more
+      | inl more ↦ moved_starts (old.cell t) more
       | inr end ↦ absurd (stuck old.names (ends_there s on) none end)
     ]
   ]
@@ -138,7 +114,7 @@ module _ {old new : Store} (k : Both old new) where
       t = target_of (old.cell s)
 
       stuck : (n : ℕ) → is_there (old.cell (follow (λ u. is_moved (old.cell u)) (λ u. target_of (old.cell u)) n s)) ≡ true → is_there (old.cell t) ≡ false → is_moved (old.cell t) ≡ false → ⊥
-      stuck zero e none end = false≢true (sym (there_stays (old.cell s) (sym (ap (λ u. is_there (old.cell u)) (follow-none (λ u. is_moved (old.cell u)) (λ u. target_of (old.cell u)) s)) ∙ e)) ∙ on)
+      stuck zero e none end = false≢true (sym (there_is_not_moved (old.cell s) (sym (ap (λ u. is_there (old.cell u)) (follow-none (λ u. is_moved (old.cell u)) (λ u. target_of (old.cell u)) s)) ∙ e)) ∙ on)
       stuck (suc n) e none end =
           let f : follow (λ u. is_moved (old.cell u)) (λ u. target_of (old.cell u)) (suc n) s ≡ t = follow-step (λ u. is_moved (old.cell u)) (λ u. target_of (old.cell u)) n s on ∙ follow-end (λ u. is_moved (old.cell u)) (λ u. target_of (old.cell u)) n t end in
           false≢true (sym none ∙ sym (ap (λ u. is_there (old.cell u)) f) ∙ e)

@@ -1,6 +1,10 @@
--- Chains, over any test of what has moved.
-use Rattle.std.proofs.Common.{◌≡◌, ℕ, suc, zero, Bool, true, false, cond, ◌+◌, ◌-◌, ◌≤◌, refl, ap, ◌∙◌, arith, zero-add}
+-- Chains, over any test of what has moved, and those of a store.
+use Rattle.std.proofs.Common.{◌≡◌, ℕ, suc, zero, Bool, true, false, cond, not, ◌&&◌, ◌+◌, ◌-◌, ◌≤◌, refl, sym, ap, ◌∙◌, arith, zero-add}
+use Rattle.std.proofs.lemmas.Bool.{not-false}
 use Rattle.spur_graph.specs.Chains.{hop, follow}
+use Rattle.spur_graph.specs.Cells.{Store, is_moved, is_there, target_of, final}
+use Rattle.spur_graph.specs.Ordinary.{is_bad_forwarder}
+use Rattle.heap_cells.proofs.CellKinds.{there_is_not_moved}
 
 module _ (moved : ℕ → Bool) (target : ℕ → ℕ) where
   -- an end stays
@@ -18,7 +22,7 @@ module _ (moved : ℕ → Bool) (target : ℕ → ℕ) where
   unfolding follow
   follow-none s = refl
 
-  follow-add : (m n s : ℕ) → follow moved target (m + n) s ≡ follow moved target n (follow moved target m s)
+  pub follow-add : (m n s : ℕ) → follow moved target (m + n) s ≡ follow moved target n (follow moved target m s)
   unfolding follow
   follow-add zero n s = rw zero-add refl
   follow-add (suc m) n s = let e : suc m + n ≡ suc (m + n) = omega arith in rw e (follow-add m n (hop moved target s))
@@ -32,3 +36,15 @@ pub follow-same : (m m' : ℕ → Bool) (g g' : ℕ → ℕ) → ((t : ℕ) → 
 unfolding follow
 follow-same m m' g g' e k zero s = refl
 follow-same m m' g g' e k (suc n) s = follow-same m m' g g' e k n (hop m g s) ∙ ap (follow m' g' n) (λ i. cond (e s i) (k s i) s)
+
+-- a forwarder that is not bad leads to an object
+pub good_forwarder_ends : (h : Store) (s : ℕ) → is_bad_forwarder h s ≡ false → is_moved (h.cell s) ≡ true → is_there (h.cell (final h s)) ≡ true
+good_forwarder_ends h s good on = not-false _ (sym (ap (λ b. b && not (is_there (h.cell (final h s)))) on) ∙ good)
+
+-- what is no forwarder leads to itself
+pub final-end : (h : Store) (s : ℕ) → is_moved (h.cell s) ≡ false → final h s ≡ s
+unfolding final
+final-end h s e = follow-end (λ t. is_moved (h.cell t)) (λ t. target_of (h.cell t)) h.names s e
+
+pub final-there : (h : Store) (s : ℕ) → is_there (h.cell s) ≡ true → final h s ≡ s
+final-there h s e = final-end h s (there_is_not_moved (h.cell s) e)

@@ -30,7 +30,7 @@ module _ {old new : Store} (k : Both old new) where
   place i e = place_below i (ltb-true i class_limit (and_parts (ltb i class_limit) (not (is_nil_slot old (i / page_entries))) e).0)
 
   page_there : (i : ℕ) → has_page old i ≡ true → (s : ℕ) × IsPageAt old (i / page_entries) s
-  page_there i e = elim (place_cases k (i / page_entries) (place i e)) [
+  page_there i e = elim (place_cases k.loadable (i / page_entries) (place i e)) [
     | inl nil ↦ absurd (false≢true (sym (not-true _ (and_parts (ltb i class_limit) (not (is_nil_slot old (i / page_entries))) e).1) ∙ nil))
     | inr page ↦ a_page old (i / page_entries) page
   ]
@@ -62,7 +62,7 @@ module _ {old new : Store} (k : Both old new) where
       let on : passes test (lead old (entry old i)) ≡ true = not-false _ (sym (ap (λ b. b && not (passes test (lead old (entry old i)))) e) ∙ k.loadable.entries i) in
       let p = passed test (lead old (entry old i)) on in
       let ordinary : is_ordinary old p.one ≡ true = elim (or_cases (eqb p.one (first old 0)) (not (eqb i 0) && is_entered old p.one) p.holds) [
-        | inl nil ↦ ap (is_ordinary old) (eqb-true p.one (first old 0) nil) ∙ nil_ordinary k
+        | inl nil ↦ ap (is_ordinary old) (eqb-true p.one (first old 0) nil) ∙ nil_ordinary k.named k.loadable
         | inr class ↦ entered_ordinary old p.one (and_parts (not (eqb i 0)) (is_entered old p.one) class).1
       ] in
       ap (passes (is_ordinary old)) p.is ∙ ordinary

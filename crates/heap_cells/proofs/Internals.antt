@@ -5,10 +5,10 @@ use Rattle.std.specs.Option.{unwrap_or}
 use Rattle.spur_graph.specs.Cells.{Store, is_there, first, any_below}
 use Rattle.spur_graph.specs.Ordinary.{roots_slots, page_places, page_entries, is_at, passes, body_at, root_slot, tells, is_nil_slot, is_first, is_page_body, is_page, is_internal, is_ordinary}
 use Rattle.spur_graph.specs.Heaps.{heap_to}
-use Rattle.heap_cells.specs.Settled.{settled_root, word_of}
+use Rattle.heap_cells.specs.Settled.{settled_root, word_of, IsLoadable, IsNamed}
 use Rattle.heap_cells.proofs.Fronts.{from-in}
 use Rattle.heap_cells.proofs.Below.{any_below-same, any_below-none, any_below-has, at-named, passed, passes-same, and-same}
-use Rattle.heap_cells.proofs.Both.{Both, there-same, words-roots, words-settled, format-same, length-same, first-five, apart}
+use Rattle.heap_cells.proofs.Both.{Both, there-same, words-roots, words-settled, format-same, length-same, first-five}
 
 pub heap-named : (s : ℕ) → heap_to (word_of s) ≡ Some s
 heap-named s =
@@ -37,6 +37,41 @@ a_page h i e =
 pub not_first : (h : Store) (s j : ℕ) → j < 5 → is_first h s ≡ false → s ≢ first h j
 not_first h s j l off e = false≢true (sym off ∙ any_below-has (λ i. eqb (first h i) s) 5 j l (eq-eqb (first h j) s (sym e)))
 
+-- a place names nil or a page
+pub place_cases : {h : Store} → IsLoadable h → (i : ℕ) → i < page_places → (is_nil_slot h i ≡ true) ⊎ (is_page h i ≡ true)
+place_cases {h} loadable i l = elim (and_cases (not (is_nil_slot h i)) (not (is_page h i)) (loadable.pages i l)) [
+  | inl e ↦ inl (not-false _ e)
+  | inr e ↦ inr (not-false _ e)
+]
+
+module _ {h : Store} (named : IsNamed h) (loadable : IsLoadable h) where
+  apart : (i j : ℕ) → i < j → j < 5 → first h i ≢ first h j
+  apart i j l m e = let five : 5 ≤ length h.starts = loadable.five in let a : first h i < first h j = named.rising i j l (omega arith) in omega arith
+
+  -- the first three chunks are ordinary
+  pub outer : (j : ℕ) → j < 3 → is_internal h (first h j) ≡ false
+  unfolding is_internal
+  outer j l =
+      or_from _ _ (or_from _ _ (ne_eqb _ _ (apart j 3 (omega arith) (omega arith))) (ne_eqb _ _ (apart j 4 (omega arith) (omega arith))))
+      (elim (cases_eq j 0) [
+        | inl zeroth ↦ ap (λ b. not b && any_below (λ i. tells h i (first h j)) page_places) (eq-eqb (first h j) (first h 0) (ap (first h) zeroth))
+        | inr later ↦ and_right _ _ (any_below-none (λ i. tells h i (first h j)) page_places (λ i m. untold i m (omega arith)))
+      ])
+    where
+      untold : (i : ℕ) → i < page_places → 0 < j → tells h i (first h j) ≡ false
+      untold i m p = elim (cases_Bool (tells h i (first h j))) [
+        | inr off ↦ off
+        | inl on ↦
+            let is = at-named (first h j) (h.to (root_slot h i)) on in
+            elim (place_cases loadable i m) [
+              | inl nil ↦ let other = at-named (first h 0) (h.to (root_slot h i)) nil in let same : first h 0 ≡ first h j = cc in absurd (apart 0 j p (omega arith) same)
+              | inr page ↦ let q = a_page h i page in let other = q.1.named in let same : q.0 ≡ first h j = cc in absurd (not_first h q.0 j (omega arith) q.1.later same)
+            ]
+      ]
+
+  pub nil_ordinary : is_ordinary h (first h 0) ≡ true
+  nil_ordinary = λ i. loadable.objects 0 (omega arith) i && not (outer 0 (omega arith) i)
+
 module _ {old new : Store} (k : Both old new) where
   pub to-heap : (w : ℕ) → new.to w ≡ heap_to w
   to-heap w = ap (λ (f : ℕ → Option ℕ). f w) k.settled.to
@@ -55,15 +90,8 @@ module _ {old new : Store} (k : Both old new) where
   pub root-top : (i : ℕ) → page_places ≤ i → i < roots_slots → root_slot new i ≡ 8 * first new 0
   root-top i m l = root-at i l ∙ cond-false (ltb i page_places) _ _ (le-ltb i page_places m) ∙ ap (λ s. 8 * s) (sym (first-five k 0 (omega arith)))
 
-  -- a place names nil or a page
-  pub place_cases : (i : ℕ) → i < page_places → (is_nil_slot old i ≡ true) ⊎ (is_page old i ≡ true)
-  place_cases i l = elim (and_cases (not (is_nil_slot old i)) (not (is_page old i)) (k.loadable.pages i l)) [
-    | inl e ↦ inl (not-false _ e)
-    | inr e ↦ inr (not-false _ e)
-  ]
-
   place_named : (i : ℕ) → i < page_places → (s : ℕ) × (old.to (root_slot old i) ≡ Some s)
-  place_named i l = elim (place_cases i l) [
+  place_named i l = elim (place_cases k.loadable i l) [
     | inl e ↦ (first old 0, at-named (first old 0) (old.to (root_slot old i)) e)
     | inr e ↦ ((a_page old i e).0, (a_page old i e).1.named)
   ]
@@ -109,27 +137,3 @@ module _ {old new : Store} (k : Both old new) where
 
   pub ordinary-same : (s : ℕ) → is_ordinary new s ≡ is_ordinary old s
   ordinary-same s = λ x. there-same k s x && not (internal-same s x)
-
-  -- the first three chunks are ordinary
-  pub outer : (j : ℕ) → j < 3 → is_internal old (first old j) ≡ false
-  unfolding is_internal
-  outer j l =
-      or_from _ _ (or_from _ _ (ne_eqb _ _ (apart k j 3 (omega arith) (omega arith))) (ne_eqb _ _ (apart k j 4 (omega arith) (omega arith))))
-      (elim (cases_eq j 0) [
-        | inl zeroth ↦ ap (λ b. not b && any_below (λ i. tells old i (first old j)) page_places) (eq-eqb (first old j) (first old 0) (ap (first old) zeroth))
-        | inr later ↦ and_right _ _ (any_below-none (λ i. tells old i (first old j)) page_places (λ i m. untold i m (omega arith)))
-      ])
-    where
-      untold : (i : ℕ) → i < page_places → 0 < j → tells old i (first old j) ≡ false
-      untold i m p = elim (cases_Bool (tells old i (first old j))) [
-        | inr off ↦ off
-        | inl on ↦
-            let named = at-named (first old j) (old.to (root_slot old i)) on in
-            elim (place_cases i m) [
-              | inl nil ↦ let other = at-named (first old 0) (old.to (root_slot old i)) nil in let same : first old 0 ≡ first old j = cc in absurd (apart k 0 j p (omega arith) same)
-              | inr page ↦ let q = a_page old i page in let other = q.1.named in let same : q.0 ≡ first old j = cc in absurd (not_first old q.0 j (omega arith) q.1.later same)
-            ]
-      ]
-
-  pub nil_ordinary : is_ordinary old (first old 0) ≡ true
-  nil_ordinary = λ i. k.loadable.objects 0 (omega arith) i && not (outer 0 (omega arith) i)

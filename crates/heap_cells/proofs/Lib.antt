@@ -1,3 +1,4 @@
+pub mod CellKinds
 pub mod Chains
 pub mod Fronts
 pub mod Bodies
@@ -11,7 +12,12 @@ pub mod Sound
 pub mod Pairings
 pub mod Finding
 pub mod Values
+pub mod Noding
+pub mod Widths
 pub mod SameGraph
+pub mod Closed
+pub mod HandleValues
+pub mod WholeClosed
 pub mod Members
 pub mod Cutting
 pub mod Starts
@@ -21,5 +27,6 @@ pub mod Ranges
 pub mod Wholes
 pub mod SameRoom
 pub mod Writing
+pub mod ObjectReads
 pub mod ObjectWrites
 pub mod Appending

@@ -1,6 +1,7 @@
 -- Membership by recursion on the list, for inductions on a row.
-use Rattle.std.proofs.Common.{◌≡◌, ◌⊎◌, ℕ, suc, zero, ◌<◌, List, [], ◌∷◌, ◌++◌, length, get_or, refl, ap, inl, inr, arith}
-use Rattle.std.specs.List.{Contains}
+use Rattle.std.proofs.Common.{◌≡◌, ◌⊎◌, ℕ, suc, zero, Bool, true, cond, ◌+◌, ◌<◌, ◌≤◌, List, [], ◌∷◌, ◌++◌, length, get_or, refl, sym, ap, ◌∙◌, subst, inl, inr, arith}
+use Rattle.std.proofs.lemmas.Bool.{false≢true, cases_Bool, cases_eq}
+use Rattle.std.specs.List.{Contains, filter, range_with_len}
 use Rattle.spur_graph.specs.Chunks.{Chunk}
 use Rattle.heap_cells.specs.Rows.{starts_of}
 
@@ -43,4 +44,32 @@ in_either [] ys x k = inr k
 in_either (y ∷ xs) ys x k = elim k [
   | inl e ↦ inl (inl e)
   | inr m ↦ elim (in_either xs ys x m) [ inl a ↦ inl (inr a) | inr b ↦ inr b ]
+]
+
+-- what a filter keeps
+pub in_filter : {X : Type 0} → (p : X → Bool) (xs : List X) (x : X) → In xs x → p x ≡ true → In (filter p xs) x
+in_filter p [] x k e = absurd k
+in_filter p (y ∷ ys) x k e = elim (cases_Bool (p y)) [
+  | inl on ↦ subst (λ b. In (cond b (y ∷ filter p ys) (filter p ys)) x) (sym on) (elim k [ inl same ↦ inl same | inr m ↦ inr (in_filter p ys x m e) ])
+  | inr off ↦ subst (λ b. In (cond b (y ∷ filter p ys) (filter p ys)) x) (sym off) (elim k [
+    | inl same ↦ absurd (false≢true (sym off ∙ ap p same ∙ e))
+    | inr m ↦ in_filter p ys x m e
+  ])
+]
+
+pub filter_in : {X : Type 0} → (p : X → Bool) (xs : List X) (x : X) → In (filter p xs) x → In xs x × (p x ≡ true)
+filter_in p [] x k = absurd k
+filter_in p (y ∷ ys) x k = elim (cases_Bool (p y)) [
+  | inl on ↦ elim (subst (λ b. In (cond b (y ∷ filter p ys) (filter p ys)) x) on k) [
+    | inl same ↦ (inl same, sym (ap p same) ∙ on)
+    | inr m ↦ let r = filter_in p ys x m in (inr r.0, r.1)
+  ]
+  | inr off ↦ let r = filter_in p ys x (subst (λ b. In (cond b (y ∷ filter p ys) (filter p ys)) x) off k) in (inr r.0, r.1)
+]
+
+pub in_range : (a n i : ℕ) → a ≤ i → i < a + n → In (range_with_len a n) i
+in_range a zero i l m = absurd (omega arith)
+in_range a (suc n) i l m = elim (cases_eq a i) [
+  | inl same ↦ inl same
+  | inr other ↦ inr (in_range (a + 1) n i (omega arith) (omega arith))
 ]

@@ -5,9 +5,10 @@ use Rattle.std.proofs.lemmas.List.{length-set, get_or-set_other, get_or-set_same
 use Rattle.object_header.specs.Fields.{Fields, fields_of}
 use Rattle.object_header.specs.Head.{count_of, class_of}
 use Rattle.spur_graph.specs.Chunks.{Chunk, leads, slots_told, Cuts, slots_of}
-use Rattle.spur_graph.specs.Cells.{Body, Cell, Empty, Moved, There, read_cell, cell_in, cell_from, body_from, start_named, is_start, is_moved}
+use Rattle.spur_graph.specs.Cells.{Body, Empty, Moved, There, read_cell, cell_in, cell_from, body_from, start_named, is_start, is_moved}
 use Rattle.heap_cells.specs.Rows.{slots_at}
 use Rattle.heap_cells.specs.RowWrites.{KeepsChunk, Rewrites}
+use Rattle.heap_cells.proofs.CellKinds.{moved_starts}
 use Rattle.heap_cells.proofs.Members.{In, listed}
 use Rattle.heap_cells.proofs.Cutting.{stands, shape, Shape, cell-at, start-in}
 use Rattle.heap_cells.proofs.Writing.{keeps-same, one-rewritten}
@@ -37,7 +38,7 @@ from_object f next ws b e = elim (cases_Bool (nat_eq f.class 0)) [
   ]
 ]
 
-to_object : (f : Fields) (next : ℕ) (ws : List ℕ) → nat_eq f.class 0 ≡ false → nat_eq f.class 8 ≡ false → cell_from f next ws ≡ There (body_from f ws)
+pub to_object : (f : Fields) (next : ℕ) (ws : List ℕ) → nat_eq f.class 0 ≡ false → nat_eq f.class 8 ≡ false → cell_from f next ws ≡ There (body_from f ws)
 to_object f next ws n0 n8 = rw (n0, n8) refl
 
 object_there : (to : ℕ → Option ℕ) (words : List ℕ) (c : Chunk) (b : Body) → read_cell to words c ≡ There b → IsObject (fields_of (get_or words c.start 0)) (slots_of words c) b
@@ -198,11 +199,6 @@ header-written to words end cs s w b t l is count class =
     (λ k. cell_in to words cs k ≡ There b → count_of w ≡ count_of (get_or words k 0) → class_of w ≡ class_of (get_or words k 0)
     → Rewrites to words (set words k w) end cs k (There (body_from (fields_of w) b.words)))
     r.2 (λ i p q. header-at to words end cs r.0 t r.1 w b l i p q) is count class
-
-moved_starts : (x : Cell) → is_moved x ≡ true → is_start x ≡ true
-moved_starts Empty k = k
-moved_starts (Moved t) k = refl
-moved_starts (There b) k = refl
 
 pub target-written : (to : ℕ → Option ℕ) (words : List ℕ) (end : ℕ) (cs : List Chunk) (s w : ℕ) → Cuts words 0 end cs → end ≤ length words → is_moved (cell_in to words cs s) ≡ true
     → Rewrites to words (set words (s + 1) w) end cs s (Moved (start_named to words w))

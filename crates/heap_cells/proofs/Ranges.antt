@@ -5,9 +5,10 @@ use Rattle.object_header.specs.Fields.{Fields, fields_of}
 use Rattle.object_header.specs.declared.head.Head.{Head}
 use Rattle.object_header.specs.declared.head.HeadError.{HeadError}
 use Rattle.spur_graph.specs.Chunks.{Chunk, chunk_of, IsChunk, Cuts, chunks_from}
-use Rattle.spur_graph.specs.Cells.{Cell, Empty, Moved, There, read_cell, cell_in, cell_from, body_from, body_of, start_named, is_start, is_there, is_formed}
+use Rattle.spur_graph.specs.Cells.{read_cell, cell_in, cell_from, body_from, body_of, start_named, is_there, is_formed}
 use Rattle.spur_graph.specs.Places.{head_at, size_of, after, place}
 use Rattle.heap_cells.specs.Rows.{slots_from, AllRead, CutsFormed}
+use Rattle.heap_cells.proofs.CellKinds.{there_starts}
 use Rattle.heap_cells.proofs.Members.{In}
 use Rattle.heap_cells.proofs.Cutting.{first, stands, shape, cell-at, start-in}
 use Rattle.heap_cells.proofs.Starts.{read_cell-is}
@@ -54,11 +55,6 @@ from_there f next ws k = elim (cases_eq f.class 0) [
     | inr o ↦ record { not_free = n; not_moved = o; body = rw (ne_eqb f.class 0 n, ne_eqb f.class 8 o) refl }
   ]
 ]
-
-there_starts : (x : Cell) → is_there x ≡ true → is_start x ≡ true
-there_starts Empty k = k
-there_starts (Moved t) k = refl
-there_starts (There b) k = refl
 
 -- an object whose head was read is formed
 chunk-formed : (to : ℕ → Option ℕ) (words : List ℕ) (end : ℕ) (c : Chunk) → end ≤ length words → IsChunk words c.at c → ReadIn words end c → is_there (read_cell to words c) ≡ true → is_formed (body_of (read_cell to words c)) ≡ true

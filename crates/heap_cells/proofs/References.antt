@@ -7,7 +7,8 @@ use Rattle.spur_graph.specs.Cells.{Store, is_there, first, final, lead, any_belo
 use Rattle.spur_graph.specs.Ordinary.{page_places, passes, tells, is_internal, is_ordinary, is_good_reference, is_good_word}
 use Rattle.heap_cells.specs.Settled.{settled_word, word_of}
 use Rattle.heap_cells.proofs.Below.{passed, mapped_there}
-use Rattle.heap_cells.proofs.Both.{Both, there-same, final-there, immediate_stays}
+use Rattle.heap_cells.proofs.Both.{Both, there-same, immediate_stays}
+use Rattle.heap_cells.proofs.Chains.{final-there}
 use Rattle.heap_cells.proofs.Internals.{to-heap, heap-named, ordinary-same, nil_ordinary}
 
 pub ordinary_there : (h : Store) (s : ℕ) → is_ordinary h s ≡ true → is_there (h.cell s) ≡ true
@@ -31,9 +32,12 @@ immediate_tag w e z = elim (or_cases ((eqb (w % 8) 1) || (eqb (w % 8) 2 && ltb (
   | inr a ↦ let four = eqb-true (w % 8) 4 a in omega (arith, four, z)
 ]
 
+pub not_immediate : (w : ℕ) → w % 8 ≡ 0 → is_immediate_word w ≡ false
+not_immediate w z = elim (cases_Bool (is_immediate_word w)) [ inl on ↦ absurd (immediate_tag w on z) | inr off ↦ off ]
+
 module _ {old new : Store} (k : Both old new) where
   pub heap-lead : (s : ℕ) → is_ordinary old s ≡ true → lead new (word_of s) ≡ Some s
-  heap-lead s e = ap (option_map (final new)) (to-heap k (word_of s) ∙ heap-named s) ∙ ap (λ t. Some t) (final-there k new s (there-same k s ∙ ordinary_there old s e))
+  heap-lead s e = ap (option_map (final new)) (to-heap k (word_of s) ∙ heap-named s) ∙ ap (λ t. Some t) (final-there new s (there-same k s ∙ ordinary_there old s e))
 
   pub heap_good : (s : ℕ) → is_ordinary old s ≡ true → is_good_reference new (word_of s) ≡ true
   heap_good s e = ap (passes (is_ordinary new)) (heap-lead s e) ∙ ordinary-same k s ∙ e
@@ -41,9 +45,6 @@ module _ {old new : Store} (k : Both old new) where
   -- a word that leads somewhere is no immediate
   pub lead_tag : (w s : ℕ) → lead old w ≡ Some s → w % 8 ≡ 0
   lead_tag w s e = let p = mapped_there (final old) (old.to w) s e in k.named.aligned w p.0 p.1
-
-  not_immediate : (w : ℕ) → w % 8 ≡ 0 → is_immediate_word w ≡ false
-  not_immediate w z = elim (cases_Bool (is_immediate_word w)) [ inl on ↦ absurd (immediate_tag w on z) | inr off ↦ off ]
 
   pub settled-good : (w s : ℕ) → lead old w ≡ Some s → is_good_reference old w ≡ true → settled_word old w ≡ word_of s
   settled-good w s is e =
@@ -69,6 +70,6 @@ module _ {old new : Store} (k : Both old new) where
     | inl on ↦ ap (is_good_word new) (immediate_stays old w on) ∙ or_left (is_immediate_word w) (is_good_reference new w) on
     | inr off ↦ or_right (is_immediate_word (settled_word old w)) (is_good_reference new (settled_word old w)) (elim (cases_Bool (is_good_reference old w)) [
       | inl good ↦ good_settled w good
-      | inr bad ↦ ap (is_good_reference new) (settled-bad w off bad) ∙ heap_good (first old 0) (nil_ordinary k)
+      | inr bad ↦ ap (is_good_reference new) (settled-bad w off bad) ∙ heap_good (first old 0) (nil_ordinary k.named k.loadable)
     ])
   ]

@@ -54,7 +54,7 @@ module _ {old new : Store} (k : Both old new) where
   roots = record {
     five = let e : length new.starts ≡ length old.starts + length k.settled.more = ap length k.settled.starts ∙ length-append old.starts k.settled.more in let five : 5 ≤ length old.starts = k.loadable.five in omega (arith, e, five);
     objects = is_first_there;
-    outer = λ j l. ap (is_internal new) (first-five k j (omega (arith, l))) ∙ internal-same k (first old j) ∙ outer k j l;
+    outer = λ j l. ap (is_internal new) (first-five k j (omega (arith, l))) ∙ internal-same k (first old j) ∙ outer k.named k.loadable j l;
     lists = let e : (body_at new (first new 3)).format ≡ (body_at old (first old 3)).format = ap (λ s. (body_at new s).format) (first-five k 3 (omega arith)) ∙ format-same k (first old 3) (k.loadable.objects 3 (omega arith)) in
         let l : (body_at old (first old 3)).format < 24 = k.loadable.lists in omega (arith, e, l);
     roots = (

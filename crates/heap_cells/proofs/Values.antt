@@ -1,11 +1,13 @@
 -- The value of a word, and of the word once it is settled.
-use Rattle.std.proofs.Common.{◌≡◌, ◌≢◌, ℕ, Bool, true, false, cond, ◌&&◌, ◌||◌, ◌/◌, ◌%◌, ◌^◌, eqb, ltb, List, [], ◌∷◌, map, refl, sym, ap, ◌∙◌, arith, inl, inr, Some, None, Option}
-use Rattle.std.proofs.lemmas.Bool.{false≢true, cases_Bool, cases_eq, eqb-true, ne_eqb, and_parts, or_cases, or_parts}
+use Rattle.std.proofs.Common.{◌≡◌, ◌≢◌, ℕ, Bool, true, false, cond, ◌&&◌, ◌||◌, ◌-◌, ◌/◌, ◌%◌, ◌^◌, ◌<◌, T, eqb, ltb, List, [], ◌∷◌, map, refl, sym, ap, ◌∙◌, subst, arith, inl, inr, Some, None, Option}
+use Rattle.std.specs.Prelude.{pos, negsuc}
+use Rattle.std.specs.Int.Signed.{le_z_yes, lt_z_yes}
+use Rattle.std.proofs.lemmas.Bool.{false≢true, cases_Bool, cases_eq, cases_lt, eqb-true, ltb-true, lt-ltb, le-ltb, le-leb, ne_eqb, and_parts, or_cases, or_parts}
 use Rattle.std.specs.Option.{unwrap_or}
 use Rattle.std.specs.List.{Contains}
 use Rattle.spur_graph.specs.declared.answer.Value.{Value}
 use Rattle.spur_graph.specs.declared.answer.Value.TheVariants.{Int, Char, Float, Ref}
-use Rattle.spur_graph.specs.Value.{value_of, int_of, is_immediate_word}
+use Rattle.spur_graph.specs.Value.{value_of, int_of, is_immediate_word, IsValue}
 use Rattle.spur_graph.specs.Names.{rename}
 use Rattle.spur_graph.specs.Cells.{Store, first, lead}
 use Rattle.spur_graph.specs.Ordinary.{is_ordinary, is_good_reference}
@@ -13,7 +15,8 @@ use Rattle.spur_graph.specs.CellGraph.{reference, read}
 use Rattle.spur_graph.specs.Heaps.{own_name}
 use Rattle.heap_cells.specs.Settled.{settled_word, word_of}
 use Rattle.heap_cells.proofs.Below.{passed}
-use Rattle.heap_cells.proofs.Both.{Both, immediate_stays, there_starts}
+use Rattle.heap_cells.proofs.CellKinds.{there_starts}
+use Rattle.heap_cells.proofs.Both.{Both, immediate_stays}
 use Rattle.heap_cells.proofs.Internals.{nil_ordinary}
 use Rattle.heap_cells.proofs.References.{ordinary_there, heap-lead, heap_good, lead_tag, settled-good, settled-bad}
 
@@ -27,16 +30,27 @@ pub record IsFixed (w : ℕ) : Type 0 where
   pub value : Value
   pub is : (f : ℕ → Value) → value_of f w ≡ Some value
   pub same : (p : ℕ → ℕ) → rename p value ≡ value
+  pub range : w < 2 ^ 64 → IsValue value
+
+-- the number of a SmallInteger is in its range
+int-range : (w : ℕ) → w < 2 ^ 64 → IsValue (Int (int_of w))
+int-range w l = elim (cases_lt w (2 ^ 63)) [
+  | inl low ↦
+      subst (λ n. IsValue (Int n)) (sym (ap (λ b. cond b (pos (w / 8)) (negsuc ((2 ^ 64 - 1 - w) / 8))) (lt-ltb w (2 ^ 63) low))) (le_z_yes tt, lt_z_yes (subst T (sym (lt-ltb (w / 8) (2 ^ 60) (omega (arith, low)))) tt))
+  | inr high ↦
+      subst (λ n. IsValue (Int n)) (sym (ap (λ b. cond b (pos (w / 8)) (negsuc ((2 ^ 64 - 1 - w) / 8))) (le-ltb w (2 ^ 63) high)))
+      (le_z_yes (subst T (sym (le-leb ((2 ^ 64 - 1 - w) / 8) (2 ^ 60 - 1) (omega (arith, high, l)))) tt), lt_z_yes tt)
+]
 
 pub fixed : (w : ℕ) → is_immediate_word w ≡ true → IsFixed w
 fixed w e = elim (or_cases ((eqb (w % 8) 1) || (eqb (w % 8) 2 && ltb (w / 8) (2 ^ 30))) (eqb (w % 8) 4) e) [
   | inl a ↦ elim (or_cases (eqb (w % 8) 1) (eqb (w % 8) 2 && ltb (w / 8) (2 ^ 30)) a) [
-    | inl b ↦ record { value = Int (int_of w); is = λ f. ap (λ n. at_tag n f w) (eqb-true (w % 8) 1 b); same = λ p. refl }
+    | inl b ↦ record { value = Int (int_of w); is = λ f. ap (λ n. at_tag n f w) (eqb-true (w % 8) 1 b); same = λ p. refl; range = int-range w }
     | inr b ↦
         let both = and_parts (eqb (w % 8) 2) (ltb (w / 8) (2 ^ 30)) b in
-        record { value = Char (w / 8); is = λ f. ap (λ n. at_tag n f w) (eqb-true (w % 8) 2 both.0) ∙ ap (λ t. cond t (Some (Char (w / 8))) None) both.1; same = λ p. refl }
+        record { value = Char (w / 8); is = λ f. ap (λ n. at_tag n f w) (eqb-true (w % 8) 2 both.0) ∙ ap (λ t. cond t (Some (Char (w / 8))) None) both.1; same = λ p. refl; range = λ l. ltb-true (w / 8) (2 ^ 30) both.1 }
   ]
-  | inr a ↦ record { value = Float w; is = λ f. ap (λ n. at_tag n f w) (eqb-true (w % 8) 4 a); same = λ p. refl }
+  | inr a ↦ record { value = Float w; is = λ f. ap (λ n. at_tag n f w) (eqb-true (w % 8) 4 a); same = λ p. refl; range = λ l. (l, eqb-true (w % 8) 4 a) }
 ]
 
 neither : {A : Type 0} (b c : Bool) (x : A) → (b && c) ≡ false → cond b (cond c (Some x) None) None ≡ None
@@ -65,6 +79,10 @@ read-none name h w n off = ap (λ o. unwrap_or o (Ref (name (first h 0)))) (no_v
 pub read-fixed : (name : ℕ → ℕ) (h : Store) (w : ℕ) (v : IsFixed w) → read name h w ≡ v.value
 unfolding read
 read-fixed name h w v = ap (λ o. unwrap_or o (Ref (name (first h 0)))) (v.is (reference name h))
+
+pub read-integer : (name : ℕ → ℕ) (h : Store) (w : ℕ) → w % 8 ≡ 1 → read name h w ≡ Int (int_of w)
+unfolding read
+read-integer name h w e = ap (λ n. unwrap_or (at_tag n (reference name h) w) (Ref (name (first h 0)))) e
 
 pub reference-good : (name : ℕ → ℕ) (h : Store) (w s : ℕ) → is_good_reference h w ≡ true → lead h w ≡ Some s → reference name h w ≡ Ref (name s)
 reference-good name h w s good is = ap (λ b. cond b (Ref (name (unwrap_or (lead h w) (first h 0)))) (Ref (name (first h 0)))) good ∙ ap (λ o. Ref (name (unwrap_or o (first h 0)))) is
@@ -96,7 +114,7 @@ module _ {old new : Store} (k : Both old new) where
               | inl z ↦ read-reference name old w z ∙ reference-bad name old w bad
               | inr n ↦ read-none name old w n off
             ] in
-            ap (read own_name new) (settled-bad k w off bad) ∙ heap-reads (first old 0) (nil_ordinary k) ∙ ap (λ t. Ref t) (sym (ordinary_named (first old 0) (nil_ordinary k))) ∙ ap (rename p) (sym nil)
+            ap (read own_name new) (settled-bad k w off bad) ∙ heap-reads (first old 0) (nil_ordinary k.named k.loadable) ∙ ap (λ t. Ref t) (sym (ordinary_named (first old 0) (nil_ordinary k.named k.loadable))) ∙ ap (rename p) (sym nil)
       ]
     ]
 

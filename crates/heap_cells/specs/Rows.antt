@@ -17,6 +17,12 @@ slots_at words s = if leads (slice_index words s) then overflow_slots_of (slice_
 abbrev pub slots_from : List ℕ → ℕ → List ℕ
 slots_from words s = take (slots_at words s) (drop (s + 1) words)
 
+-- a header stands there, with its overflow word where it has one, and its slots are among the words
+pub record StandsAt (words : List ℕ) (s : ℕ) : Type 0 where
+  pub below : s + 1 < length words
+  pub behind : leads (slice_index words s) ≡ true → 1 ≤ s
+  pub fits : s + 1 + slots_at words s ≤ length words
+
 -- the starts of a row
 abbrev pub starts_of : List Chunk → List ℕ
 starts_of cs = map (λ (c : Chunk). c.start) cs

@@ -1,4 +1,5 @@
 // The laws, for the layers above. They hold of the definitions, so that these functions do nothing.
+ghost use Rattle.heap_cells.specs.Closing.{LoadableIsClosed};
 ghost use Rattle.heap_cells.specs.Settling.{SettledIsSound, SettledIsGood, SettledIsSameGraph, SettledIsSameRoom};
 
 /// The words of an image to which no cause of refusal applies are sound once they are settled.
@@ -21,4 +22,9 @@ pub fn settled_is_same_graph()
 /// The settled words have the room of the file and the chunks behind, up to names.
 pub fn settled_is_same_room()
     ensures { SettledIsSameRoom }
+{}
+
+/// The graph of words to which no cause of refusal applies is closed.
+pub fn loadable_is_closed()
+    ensures { LoadableIsClosed }
 {}

@@ -7,9 +7,14 @@
 #![tactic(auto)]
 
 mod laws;
+mod reading;
 mod rows;
 
-pub use laws::{settled_is_good, settled_is_same_graph, settled_is_same_room, settled_is_sound};
+pub use laws::{
+    loadable_is_closed, settled_is_good, settled_is_same_graph, settled_is_same_room,
+    settled_is_sound,
+};
+pub use reading::{Span, pointers_of, slots_of, span_of};
 pub use rows::{
     all_cut, appended, body_written, cell_read, cells_mapped, chunks_are, cuts_join, head_read,
     header_written, keeps_row, one_rewritten, place_is_end, place_is_start, range_cuts,

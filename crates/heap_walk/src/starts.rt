@@ -1,4 +1,4 @@
-ghost use Rattle.std.specs.Prelude.{◌≡◌, ◌≢◌, ◌*◌, ◌<◌, ◌≤◌, ℕ, length, IfOk, false, true};
+ghost use Rattle.std.specs.Prelude.{◌≡◌, ◌≢◌, ◌+◌, ◌*◌, ◌/◌, ◌<◌, ◌≤◌, ℕ, length, IfOk, IfSome, IfNone, false, true};
 
 use spur_words::NoMemory;
 use std::alloc::Global;
@@ -43,6 +43,37 @@ impl StartMap {
         ensures { result ≡ has_start self.now at }
     {
         (self.bits[at / WORD_BITS] >> (at % WORD_BITS)) & 1 == 1
+    }
+
+    /// The first start at `at` or behind it whose bit is in the same word of the map, if there is one.
+    fn next_in_word(&self, at: usize) -> Option<usize>
+        requires { at < covered self.now }
+        ensures found { IfSome result (λ s. (at ≤ s) × (has_start self.now s ≡ true)) }
+        ensures first { IfSome result (λ s. (k : ℕ) → at ≤ k → k < s → has_start self.now k ≡ false) }
+        ensures none { IfNone result ((k : ℕ) → at ≤ k → k < 64 * (at / 64 + 1) → has_start self.now k ≡ false) }
+    {
+        let rest = self.bits[at / WORD_BITS] >> (at % WORD_BITS);
+        if rest == 0 {
+            return None;
+        }
+        Some(at + rest.trailing_zeros() as usize)
+    }
+
+    /// The first start at the word `from` or behind it, if there is one.
+    pub fn next(&self, from: usize) -> Option<usize>
+        ensures found { IfSome result (λ s. (from ≤ s) × (s < covered self.now) × (has_start self.now s ≡ true)) }
+        ensures first { IfSome result (λ s. (k : ℕ) → from ≤ k → k < s → has_start self.now k ≡ false) }
+        ensures none { IfNone result ((k : ℕ) → from ≤ k → k < covered self.now → has_start self.now k ≡ false) }
+    {
+        let end = self.words;
+        let mut at = from;
+        'words: while at < end {
+            match self.next_in_word(at) {
+                Some(start) => return if start < end { Some(start) } else { None },
+                None => at = (at / WORD_BITS + 1).saturating_mul(WORD_BITS),
+            }
+        }
+        None
     }
 
     /// Adds the start `at`. One that is there already stays.

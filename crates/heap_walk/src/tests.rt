@@ -14,6 +14,19 @@ fn new_map_has_no_start_until_one_is_set(rt: HostRuntime) -> Result<(), Fail> {
 }
 
 #[test]
+fn next_start_may_be_in_a_later_word(rt: HostRuntime) -> Result<(), Fail> {
+    let mut map = StartMap::new(rt.alloc(), 200)?;
+    assert_eq!(rt; map.len(), 200);
+    map.set(3);
+    map.set(199);
+    assert_eq!(rt; map.next(0), Some(3));
+    assert_eq!(rt; map.next(3), Some(3));
+    assert_eq!(rt; map.next(4), Some(199));
+    assert_eq!(rt; map.next(200), None);
+    Ok(())
+}
+
+#[test]
 fn chunks_of_each_kind_follow_each_other(rt: HostRuntime) -> Result<(), Fail> {
     let mut region = Region::new(rt.alloc(), 11)?;
     assert_eq!(rt; region.len(), 11);

@@ -1,123 +1,91 @@
--- What the starts of checked words tell.
-use Rattle.std.proofs.Common.{◌≡◌, ◌≢◌, ℕ, suc, true, false, ◌+◌, ◌-◌, ◌<◌, List, length, get_or, refl, sym, ap, ◌∙◌, arith, Option, Some, None, inl, inr}
-use Rattle.std.proofs.lemmas.Bool.{false≢true, cases_Bool}
-use Rattle.std.specs.Option.{unwrap_or, option_map}
+-- Where the references of checked words lead, and what is told of the words by where they lead.
+use Rattle.std.proofs.Common.{◌≡◌, ◌≢◌, ℕ, Bool, true, false, cond, not, ◌&&◌, ◌||◌, ◌<◌, ◌≤◌, nat_eq, List, length, get_or, refl, sym, ap, ◌∙◌, arith, Option, Some, None, inl, inr}
+use Rattle.std.proofs.lemmas.Bool.{false≢true, cases_Bool, cases_lt, ne_eqb, eq-eqb}
+use Rattle.std.specs.Option.{is_some}
+use Rattle.object_header.specs.Head.{class_of}
 use Rattle.heap_walk.specs.declared.starts.StartMap.{StartMap}
 use Rattle.heap_walk.specs.Starts.{has_start, covered}
 use Rattle.spur_graph.specs.Segments.{Segment, word_in}
 use Rattle.spur_graph.specs.Chunks.{chunks}
-use Rattle.spur_graph.specs.Cells.{Cell, Empty, Moved, There, Store, is_start, is_moved, is_there, target_of, final}
-use Rattle.heap_cells.specs.Rows.{ReadsStart}
-use Rattle.heap_cells.proofs.Both.{there_starts}
-use Rattle.heap_cells.proofs.Starts.{start-read}
-use Rattle.heap_cells.proofs.Below.{mapped_there}
-use Rattle.heap_cells.proofs.Chains.{follow-end, follow-step}
+use Rattle.spur_graph.specs.Cells.{Store, is_start, is_there, first, lead, any_below}
+use Rattle.spur_graph.specs.Ordinary.{page_places, passes, tells, is_internal, is_ordinary, is_good_reference}
 use Rattle.spur_graph.specs.FileStores.{file_store}
-use Rattle.image_checks.specs.Checked.{IsChecked, Leads}
-
-pub unmoved_there : (c : Cell) → is_start c ≡ true → is_moved c ≡ false → is_there c ≡ true
-unmoved_there Empty e n = e
-unmoved_there (Moved t) e n = sym n
-unmoved_there (There b) e n = refl
-
-pub there_unmoved : (c : Cell) → is_there c ≡ true → is_moved c ≡ false
-there_unmoved Empty e = refl
-there_unmoved (Moved t) e = sym e
-there_unmoved (There b) e = refl
-
-moved_is : (c : Cell) → is_moved c ≡ true → c ≡ Moved (target_of c)
-moved_is Empty e = absurd (false≢true e)
-moved_is (Moved t) e = refl
-moved_is (There b) e = absurd (false≢true e)
-
-none_unmoved : (c : Cell) → is_start c ≡ false → is_moved c ≡ false
-none_unmoved Empty e = refl
-none_unmoved (Moved t) e = e
-none_unmoved (There b) e = refl
-
-none_there : (c : Cell) → is_start c ≡ false → is_there c ≡ false
-none_there Empty e = refl
-none_there (Moved t) e = refl
-none_there (There b) e = e
-
-some_same : (a b : ℕ) → Some a ≡ Some b → a ≡ b
-some_same a b e = cc
-
--- an end is where it leads
-pub final-end : (h : Store) (s : ℕ) → is_moved (h.cell s) ≡ false → final h s ≡ s
-unfolding final
-final-end h s e = follow-end (λ t. is_moved (h.cell t)) (λ t. target_of (h.cell t)) h.names s e
-
--- a forwarder to an end leads there
-pub final-hop : (h : Store) (n s : ℕ) → h.names ≡ suc n → is_moved (h.cell s) ≡ true → is_moved (h.cell (target_of (h.cell s))) ≡ false → final h s ≡ target_of (h.cell s)
-unfolding final
-final-hop h n s l m e =
-    let hops = Rattle.spur_graph.specs.Chains.follow (λ t. is_moved (h.cell t)) (λ t. target_of (h.cell t)) in
-    ap (λ k. hops k s) l ∙ follow-step (λ t. is_moved (h.cell t)) (λ t. target_of (h.cell t)) n s m
-    ∙ follow-end (λ t. is_moved (h.cell t)) (λ t. target_of (h.cell t)) n (target_of (h.cell s)) e
-
-named_as : (o : Option ℕ) (n t : ℕ) → unwrap_or o n ≡ t → t ≢ n → o ≡ Some t
-named_as None n t e other = absurd (other (sym e))
-named_as (Some u) n t e other = ap (λ x. Some x) e
+use Rattle.heap_cells.specs.Rows.{ReadsStart}
+use Rattle.heap_cells.proofs.CellKinds.{moved_starts, start_is_there_or_moved, no_start_is_not_there}
+use Rattle.heap_cells.proofs.Starts.{start-read, starts-rise}
+use Rattle.image_references.specs.References as references
+use Rattle.image_references.proofs.Leading.{ordinary_lead, forwarder}
+use Rattle.image_checks.specs.Checks.{IsCut, HasFive, HasOrdinary}
+use Rattle.image_checks.specs.Checked.{IsChecked}
 
 module _ {segs : List Segment} {words : List ℕ} {map : StartMap} (k : IsChecked segs words map) where
-  pub reads : (s : ℕ) → is_start ((file_store segs words).cell s) ≡ true → ReadsStart (word_in segs 0) words (length words) (chunks words) s
+  reads : (s : ℕ) → is_start ((file_store segs words).cell s) ≡ true → ReadsStart (word_in segs 0) words (length words) (chunks words) s
   reads s e = start-read (word_in segs 0) words (length words) (chunks words) s k.cut.cut e
 
-  pub reads_there : (s : ℕ) → is_there ((file_store segs words).cell s) ≡ true → ReadsStart (word_in segs 0) words (length words) (chunks words) s
-  reads_there s e = reads s (there_starts ((file_store segs words).cell s) e)
+  -- checked words tell where their references lead
+  pub checked_leads : references.Leads (file_store segs words) segs map words
+  checked_leads = record {
+    to = λ w. refl;
+    names = refl;
+    inside = λ s e. (reads s e).below;
+    starts = k.starts;
+    covers = k.covers;
+    moved = λ s e. (reads s e).moved;
+    target = λ s m. (reads s (moved_starts ((file_store segs words).cell s) m)).target m;
+    resolved = k.resolved;
+  }
 
-  pub has_starts : (s : ℕ) → has_start map s ≡ true → is_start ((file_store segs words).cell s) ≡ true
-  has_starts s e = sym (k.starts s) ∙ e
+  -- a forwarder is told by the map and the header, and is no object
+  pub forwarder_told : (s : ℕ) (told : Bool) → told ≡ has_start map s && nat_eq (class_of (get_or words s 0)) 8 → has_start map s ≡ true → is_there ((file_store segs words).cell s) ≡ not told
+  forwarder_told s told e on =
+      start_is_there_or_moved ((file_store segs words).cell s) (sym (k.starts s) ∙ on) ∙ ap not (forwarder (file_store segs words) segs map words checked_leads s told e)
 
-  -- what a forwarder's first slot names, and where it leads
-  pub record Hops (s t : ℕ) : Type 0 where
-    pub named : word_in segs 0 (get_or words (s + 1) 0) ≡ Some t
-    pub there : is_there ((file_store segs words).cell t) ≡ true
-    pub leads : final (file_store segs words) s ≡ t
+  -- where the map has no start no object stands
+  pub none_there : (s : ℕ) → has_start map s ≡ false → is_there ((file_store segs words).cell s) ≡ false
+  none_there s off = no_start_is_not_there ((file_store segs words).cell s) (sym (k.starts s) ∙ off)
 
-  pub hops : (s : ℕ) → is_start ((file_store segs words).cell s) ≡ true → is_moved ((file_store segs words).cell s) ≡ true → (t : ℕ) × Hops s t
-  hops s e m =
-      let h = file_store segs words in
-      let r = reads s e in
-      let t : ℕ = target_of (h.cell s) in
-      let there : is_there (h.cell t) ≡ true = k.resolved s t (moved_is (h.cell s) m) in
-      let q = reads_there t there in
-      let n : length words ≡ suc (length words - 1) = omega (arith, r.below) in (
-        t,
-        record {
-          named = named_as (word_in segs 0 (get_or words (s + 1) 0)) (length words) t (sym (r.target m)) (λ x. omega (arith, x, q.below));
-          there = there;
-          leads = final-hop h (length words - 1) s n m (there_unmoved (h.cell t) there);
-        },
-      )
+  -- objects that are marked up to a place are so up to the next start, since there is none between
+  pub marked_before : (has : ℕ → Bool) (at to : ℕ) → ((s : ℕ) → s < at → has s ≡ is_there ((file_store segs words).cell s)) → ((s : ℕ) → at ≤ s → has s ≡ false)
+      → ((s : ℕ) → at ≤ s → s < to → has_start map s ≡ false) → (s : ℕ) → s < to → has s ≡ is_there ((file_store segs words).cell s)
+  marked_before has at to marked empty none s l = elim (cases_lt s at) [ inl low ↦ marked s low | inr high ↦ empty s high ∙ sym (none_there s (none s high l)) ]
 
-  -- a word that names an object leads to it
-  pub leads_there : (word s : ℕ) → word_in segs 0 word ≡ Some s → is_there ((file_store segs words).cell s) ≡ true → Leads (file_store segs words) word (Some s)
-  leads_there word s e there =
-      let h = file_store segs words in
-      (ap (option_map (final h)) e ∙ ap (λ t. Some t) (final-end h s (there_unmoved (h.cell s) there)), there)
+-- a map of the ordinary objects
+pub checked_ordinary : (segs : List Segment) (words : List ℕ) (map : StartMap) → covered map ≡ length words → HasOrdinary (file_store segs words) (has_start map) → references.HasOrdinary (file_store segs words) map
+checked_ordinary segs words map covers has = record { has = has; covers = covers }
 
-  -- a word that names a forwarder leads to what the forwarder names
-  pub leads_on : (word s : ℕ) (o : Option ℕ) → word_in segs 0 word ≡ Some s → is_start ((file_store segs words).cell s) ≡ true → is_moved ((file_store segs words).cell s) ≡ true
-      → o ≡ word_in segs 0 (get_or words (s + 1) 0) → (t : ℕ) × (o ≡ Some t) × Leads (file_store segs words) word (Some t)
-  leads_on word s o e start m is =
-      let h = file_store segs words in
-      let p = hops s start m in
-      (p.0, is ∙ p.1.named, (ap (option_map (final h)) e ∙ ap (λ t. Some t) p.1.leads, p.1.there))
+-- nil is ordinary
+pub nil_ordinary : {segs : List Segment} {words : List ℕ} → IsCut segs words → HasFive (file_store segs words) → is_ordinary (file_store segs words) (first (file_store segs words) 0) ≡ true
+unfolding is_internal
+nil_ordinary {segs} {words} k f =
+    let h = file_store segs words in
+    let row = starts-rise words (length words) (chunks words) k.cut in
+    let five : 5 ≤ length h.starts = f.five in
+    let apart : (j : ℕ) → 0 < j → j < 5 → first h 0 ≢ first h j = λ j l m e. let low = row.rising 0 j l (omega (arith, five, m)) in omega (arith, low, e) in
+    let none : (b : Bool) → false || false || (not true && b) ≡ false = λ b. refl in
+    let outer : is_internal h (first h 0) ≡ false =
+    (λ x. ne_eqb _ _ (apart 3 (omega arith) (omega arith)) x || ne_eqb _ _ (apart 4 (omega arith) (omega arith)) x || (not (eq-eqb (first h 0) (first h 0) refl x) && any_below (λ i. tells h i (first h 0)) page_places)) in
+    λ x. f.objects 0 (omega arith) x && not (outer x)
 
-  -- a word that names no start leads to no object
-  pub leads_none : (word : ℕ) → ((s : ℕ) → word_in segs 0 word ≡ Some s → s < covered map → has_start map s ≢ true) → Leads (file_store segs words) word None
-  leads_none word none s e =
-      let h = file_store segs words in
-      let p = mapped_there (final h) (word_in segs 0 word) s e in
-      let u : ℕ = p.0 in
-      let named : word_in segs 0 word ≡ Some u = p.1 in
-      elim (cases_Bool (is_start (h.cell u))) [
-        | inl on ↦ absurd (none u named (omega (arith, (reads u on).below, k.covers)) (k.starts u ∙ on))
-        | inr off ↦
-            let end : final h u ≡ u = final-end h u (none_unmoved (h.cell u) off) in
-            let leads : option_map (final h) (word_in segs 0 word) ≡ Some (final h u) = ap (option_map (final h)) named in
-            let same : s ≡ u = some_same s (final h u) (sym e ∙ leads) ∙ end in
-            ap (λ t. is_there (h.cell t)) same ∙ none_there (h.cell u) off
+-- ---- the ordinary object to which a word leads
+
+-- a test that ordinary objects alone pass is passed by it, or by none
+pub led_passes : (h : Store) (word : ℕ) (test : ℕ → Bool) (o : Option ℕ) → ((s : ℕ) → test s ≡ true → is_ordinary h s ≡ true) → o ≡ ordinary_lead h word → passes test o ≡ passes test (lead h word)
+led_passes h word test o only e = ap (passes test) e ∙ kept (is_ordinary h) (lead h word) only
+  where
+    kept : (good : ℕ → Bool) (l : Option ℕ) → ((s : ℕ) → test s ≡ true → good s ≡ true) → passes test (cond (passes good l) l None) ≡ passes test l
+    kept good None only = refl
+    kept good (Some s) only = elim (cases_Bool (good s)) [
+      | inl on ↦ rw on refl
+      | inr off ↦ elim (cases_Bool (test s)) [
+        | inl pass ↦ absurd (false≢true (sym off ∙ only s pass))
+        | inr fail ↦ rw (off, fail) refl
       ]
+    ]
+
+-- the word is a good reference where there is one
+pub led_good : (h : Store) (word : ℕ) (o : Option ℕ) → o ≡ ordinary_lead h word → is_some o ≡ is_good_reference h word
+led_good h word o e = ap (λ (p : Option ℕ). is_some p) e ∙ some (is_ordinary h) (lead h word)
+  where
+    some : (good : ℕ → Bool) (l : Option ℕ) → is_some (cond (passes good l) l None) ≡ passes good l
+    some good None = refl
+    some good (Some s) = elim (cases_Bool (good s)) [ inl on ↦ rw on refl | inr off ↦ rw off refl ]

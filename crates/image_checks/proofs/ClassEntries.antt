@@ -1,41 +1,34 @@
 -- The entries of the class table, where no place of the hidden roots is bad.
-use Rattle.std.proofs.Common.{◌≡◌, ◌≢◌, ℕ, Bool, true, false, not, ◌&&◌, ◌||◌, ◌+◌, ◌*◌, ◌/◌, ◌%◌, ◌<◌, ◌≤◌, eqb, ltb, List, length, get_or, refl, sym, ap, ◌∙◌, arith, inl, inr, Option, Some, None}
-use Rattle.std.proofs.lemmas.Bool.{false≢true, cases_Bool, eqb-true, eq-eqb, and_parts, or_cases, lt-ltb, ltb-true, not-false, ne_eqb}
+use Rattle.std.proofs.Common.{◌≡◌, ◌≢◌, ℕ, Bool, true, false, not, ◌&&◌, ◌||◌, ◌+◌, ◌*◌, ◌/◌, ◌%◌, ◌<◌, ◌≤◌, eqb, List, length, get_or, refl, sym, ap, ◌∙◌, arith, inl, inr, Option, Some, None}
+use Rattle.std.proofs.lemmas.Bool.{false≢true, eqb-true, eq-eqb, and_parts, or_cases, lt-ltb, not-false, ne_eqb}
 use Rattle.std.specs.Option.{unwrap_or}
 use Rattle.spur_graph.specs.Segments.{Segment}
 use Rattle.spur_graph.specs.Cells.{Store, is_there, first, lead, any_below}
 use Rattle.spur_graph.specs.Ordinary.{page_places, page_entries, class_limit, is_at, passes, body_at, root_slot, tells, is_nil_slot, is_first, is_page_body, is_ordinary, has_page, page_of, entry, has_entry, is_no_index, is_entered, is_bad_entry}
 use Rattle.heap_cells.proofs.Entries.{entered_ordinary}
-use Rattle.image_checks.specs.Checks.{IsCut, IsBadIndex}
+use Rattle.image_references.proofs.Leading.{ordinary_lead}
+use Rattle.image_checks.specs.Checks.{IsCut, HasFive}
 use Rattle.spur_graph.specs.FileStores.{file_store}
-use Rattle.image_checks.specs.Checked.{AreFirst, HasPages, HasPage, Leads, is_good_entry}
+use Rattle.image_checks.specs.Checked.{HasPages, HasPage, is_good_entry}
+use Rattle.image_checks.proofs.AtStarts.{nil_ordinary, led_passes}
 use Rattle.image_checks.proofs.Objects.{words_there, end_there}
 use Rattle.image_checks.proofs.Paging.{unnamed_bad, page_test}
-use Rattle.heap_cells.proofs.References.{ordinary_there}
 
--- ---- a word that leads to no object
-
-passes_none : (test there : ℕ → Bool) (o : Option ℕ) → ((s : ℕ) → test s ≡ true → there s ≡ true) → ((s : ℕ) → o ≡ Some s → there s ≡ false) → passes test o ≡ false
-passes_none test there None only none = refl
-passes_none test there (Some s) only none = elim (cases_Bool (test s)) [
-  | inl on ↦ absurd (false≢true (sym (none s refl) ∙ only s on))
-  | inr off ↦ off
-]
-
-pub at_none : (there : ℕ → Bool) (o : Option ℕ) (t : ℕ) → there t ≡ true → ((s : ℕ) → o ≡ Some s → there s ≡ false) → is_at t o ≡ false
-at_none there None t on none = refl
-at_none there (Some s) t on none = ne_eqb s t (λ same. false≢true (sym (none s refl) ∙ ap there same ∙ on))
+at-passes : (s : ℕ) (o : Option ℕ) → is_at s o ≡ passes (λ t. eqb t s) o
+at-passes s None = refl
+at-passes s (Some t) = refl
 
 module _ {segs : List Segment} {words : List ℕ} (k : IsCut segs words) where
-  -- an entry that leads to no object is bad
-  pub none_good : (firsts : List ℕ) (i word : ℕ) → AreFirst (file_store segs words) firsts → Leads (file_store segs words) word None → is_good_entry (file_store segs words) i word ≡ false
-  none_good firsts i word f none =
+  -- whether the word of an entry is good, by the ordinary object to which it leads
+  pub good_entry : (i word : ℕ) (o : Option ℕ) → HasFive (file_store segs words) → o ≡ ordinary_lead (file_store segs words) word
+      → passes (λ s. eqb s (first (file_store segs words) 0) || (not (eqb i 0) && is_entered (file_store segs words) s)) o ≡ is_good_entry (file_store segs words) i word
+  good_entry i word o f e =
       let h = file_store segs words in
-      let only : (s : ℕ) → (eqb s (first h 0) || (not (eqb i 0) && is_entered h s)) ≡ true → is_there (h.cell s) ≡ true = λ s e. elim (or_cases (eqb s (first h 0)) (not (eqb i 0) && is_entered h s) e) [
-        | inl nil ↦ ap (λ t. is_there (h.cell t)) (eqb-true s (first h 0) nil) ∙ f.roots.objects 0 (omega arith)
-        | inr class ↦ ordinary_there h s (entered_ordinary h s (and_parts (not (eqb i 0)) (is_entered h s) class).1)
+      let only : (s : ℕ) → (eqb s (first h 0) || (not (eqb i 0) && is_entered h s)) ≡ true → is_ordinary h s ≡ true = λ s good. elim (or_cases (eqb s (first h 0)) (not (eqb i 0) && is_entered h s) good) [
+        | inl nil ↦ ap (is_ordinary h) (eqb-true s (first h 0) nil) ∙ nil_ordinary k f
+        | inr class ↦ entered_ordinary h s (and_parts (not (eqb i 0)) (is_entered h s) class).1
       ] in
-      passes_none (λ s. eqb s (first h 0) || (not (eqb i 0) && is_entered h s)) (λ s. is_there (h.cell s)) (lead h word) only none
+      led_passes h word (λ s. eqb s (first h 0) || (not (eqb i 0) && is_entered h s)) o only e
 
   -- ---- pages
 
@@ -85,19 +78,15 @@ module _ {segs : List Segment} {words : List ℕ} (k : IsCut segs words) where
       let low : i % page_entries < page_entries = omega arith in
       ap (λ t. get_or (body_at h t).words (i % page_entries) 0) page ∙ words_there k s (i % page_entries) p.there (omega (arith, low, p.full))
 
-  -- whether an entry leads to a start, by where its word leads
-  pub entry_leads : (i s start t : ℕ) → IsPageAt (i / page_entries) s → i < class_limit → Leads (file_store segs words) (get_or words (s + 1 + i % page_entries) 0) (Some t)
-      → eqb t start ≡ has_entry (file_store segs words) i start
-  entry_leads i s start t p low (leads, there) =
+  -- whether an entry leads to an ordinary object, by that to which its word leads
+  pub entry_leads : (i s start : ℕ) (o : Option ℕ) → IsPageAt (i / page_entries) s → i < class_limit → is_ordinary (file_store segs words) start ≡ true
+      → o ≡ ordinary_lead (file_store segs words) (get_or words (s + 1 + i % page_entries) 0) → is_at start o ≡ has_entry (file_store segs words) i start
+  entry_leads i s start o p low on e =
       let h = file_store segs words in
-      sym ((λ x. paged i (i / page_entries) s p refl low x && is_at start (lead h (entry_word i (i / page_entries) s p refl x))) ∙ ap (is_at start) leads)
-
-  pub entry_leads_not : (i s start : ℕ) → IsPageAt (i / page_entries) s → i < class_limit → is_there ((file_store segs words).cell start) ≡ true
-      → Leads (file_store segs words) (get_or words (s + 1 + i % page_entries) 0) None → false ≡ has_entry (file_store segs words) i start
-  entry_leads_not i s start p low there none =
-      let h = file_store segs words in
-      sym ((λ x. paged i (i / page_entries) s p refl low x && is_at start (lead h (entry_word i (i / page_entries) s p refl x)))
-      ∙ at_none (λ t. is_there (h.cell t)) (lead h (get_or words (s + 1 + i % page_entries) 0)) start there none)
+      let only : (t : ℕ) → eqb t start ≡ true → is_ordinary h t ≡ true = λ t same. ap (is_ordinary h) (eqb-true t start same) ∙ on in
+      let word = get_or words (s + 1 + i % page_entries) 0 in
+      at-passes start o ∙ led_passes h word (λ t. eqb t start) o only e ∙ sym (at-passes start (lead h word))
+      ∙ sym (λ x. paged i (i / page_entries) s p refl low x && is_at start (lead h (entry_word i (i / page_entries) s p refl x)))
 
   -- an entry is bad where its word is not good
   pub bad_entry : (place s e : ℕ) (b : Bool) → IsPageAt place s → place < page_places → e < page_entries
@@ -111,22 +100,6 @@ module _ {segs : List Segment} {words : List ℕ} (k : IsCut segs words) where
       let word : entry h i ≡ get_or words (s + 1 + e) 0 = entry_word i place s p at ∙ ap (λ n. get_or words (s + 1 + n) 0) rest in
       (λ x. paged i place s p at low x && not (is_good_entry h i (word x))) ∙ ap not (sym is)
 
-  -- a place without a page has no entries
-  pub pageless : (place n : ℕ) → is_nil_slot (file_store segs words) place ≡ true → place * page_entries ≤ n → n < place * page_entries + page_entries → IsBadIndex (file_store segs words) n → ⊥
-  pageless place n nil from to bad =
-      let h = file_store segs words in
-      let at : n / page_entries ≡ place = omega (arith, from, to) in
-      let parts = and_parts (has_page h n) (not (is_good_entry h n (entry h n))) bad in
-      let there = (and_parts (ltb n class_limit) (not (is_nil_slot h (n / page_entries))) parts.0).1 in
-      false≢true (sym (ap not (ap (is_nil_slot h) at ∙ nil)) ∙ there)
-
-  pub index_below : (n : ℕ) → IsBadIndex (file_store segs words) n → n < page_places * page_entries
-  index_below n bad =
-      let h = file_store segs words in
-      let parts = and_parts (has_page h n) (not (is_good_entry h n (entry h n))) bad in
-      let low = ltb-true n class_limit (and_parts (ltb n class_limit) (not (is_nil_slot h (n / page_entries))) parts.0).0 in
-      omega (arith, low)
-
 -- an entered class, where the hash is one of a class
 pub entered_by : (h : Store) (s hash : ℕ) (b : Bool) → is_ordinary h s ≡ true → (body_at h s).hash ≡ hash → is_no_index hash ≡ false → b ≡ has_entry h hash s → b ≡ is_entered h s
 unfolding is_entered
@@ -135,7 +108,3 @@ entered_by h s hash b on e index is = is ∙ sym ((λ x. on x && not (is_no_inde
 pub entered_not : (h : Store) (s hash : ℕ) → is_ordinary h s ≡ true → (body_at h s).hash ≡ hash → is_no_index hash ≡ true → false ≡ is_entered h s
 unfolding is_entered
 entered_not h s hash on e index = sym ((λ x. on x && not (is_no_index (e x)) && has_entry h (e x) s) ∙ ap (λ c. not c && has_entry h hash s) index)
-
-pub entered_never : (h : Store) (s : ℕ) → is_ordinary h s ≡ false → false ≡ is_entered h s
-unfolding is_entered
-entered_never h s off = sym (ap (λ b. b && not (is_no_index (body_at h s).hash) && has_entry h (body_at h s).hash s) off)

@@ -1,19 +1,14 @@
 -- A chain that ends does so within as many steps as there are names that may have moved.
-use Rattle.std.proofs.Common.{◌≡◌, ℕ, suc, zero, Bool, true, false, ◌+◌, ◌-◌, ◌<◌, ◌≤◌, List, [], ◌∷◌, length, get_or, refl, sym, ap, ◌∙◌, eqb, inl, inr, arith, zero-add}
+use Rattle.std.proofs.Common.{◌≡◌, ℕ, suc, zero, Bool, true, false, ◌+◌, ◌-◌, ◌<◌, ◌≤◌, List, [], ◌∷◌, length, get_or, refl, sym, ap, ◌∙◌, eqb, inl, inr, arith}
 use Rattle.std.proofs.lemmas.Bool.{false≢true, cases_Bool, ne_eqb, eqb-true}
 use Rattle.std.specs.List.{IsDistinct, list_any, Contains}
 use Rattle.std.proofs.lemmas.Map.Keys.{IsDistinct-from_apart}
 use Rattle.std.proofs.lemmas.Map.Steps.{length-le_from_distinct_below}
 use Rattle.std.proofs.lemmas.Map.Views.{Contains-from_any}
 use Rattle.spur_graph.specs.Chains.{hop, follow}
-use Rattle.heap_cells.proofs.Chains.{follow-more}
+use Rattle.heap_cells.proofs.Chains.{follow-add, follow-more}
 
 module _ (moved : ℕ → Bool) (target : ℕ → ℕ) where
-  follow-add : (m n s : ℕ) → follow moved target (m + n) s ≡ follow moved target n (follow moved target m s)
-  unfolding follow
-  follow-add zero n s = rw zero-add refl
-  follow-add (suc m) n s = let e : suc m + n ≡ suc (m + n) = omega arith in rw e (follow-add m n (hop moved target s))
-
   -- the names that a chain passes in so many steps
   abbrev trail : ℕ → ℕ → List ℕ
   trail zero s = []
@@ -32,8 +27,8 @@ module _ (moved : ℕ → Bool) (target : ℕ → ℕ) where
   -- where a chain ends after k steps and not before, it passes each name once
   apart_at : (k s i j n : ℕ) → ((h : ℕ) → h < k → moved (follow moved target h s) ≡ true) → moved (follow moved target k s) ≡ false → k ≡ j + n → i + n < k → follow moved target i s ≡ follow moved target j s → ⊥
   apart_at k s i j n before e late early same =
-      let a : follow moved target k s ≡ follow moved target n (follow moved target j s) = rw late (follow-add j n s) in
-      let b : follow moved target (i + n) s ≡ follow moved target n (follow moved target i s) = follow-add i n s in
+      let a : follow moved target k s ≡ follow moved target n (follow moved target j s) = rw late (follow-add moved target j n s) in
+      let b : follow moved target (i + n) s ≡ follow moved target n (follow moved target i s) = follow-add moved target i n s in
       false≢true (sym e ∙ ap moved (a ∙ ap (follow moved target n) (sym same) ∙ sym b) ∙ before (i + n) early)
 
   -- so it has no more steps than there are names that may have moved

@@ -1,4 +1,3 @@
-pub mod Starting
 pub mod Walks
 pub mod Segmented
 pub mod Placed
@@ -11,4 +10,3 @@ pub mod Objects
 pub mod Paging
 pub mod Pointers
 pub mod ClassEntries
-pub mod Same

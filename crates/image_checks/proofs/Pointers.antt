@@ -1,23 +1,24 @@
 -- The pointer slots of ordinary objects, and the order in which their words stand.
-use Rattle.std.proofs.Common.{◌≡◌, ◌≢◌, ℕ, true, false, not, ◌&&◌, ◌+◌, ◌<◌, ◌≤◌, ltb, List, length, get_or, refl, sym, ap, ◌∙◌, arith, inl, inr, subst, Ok, Err, Result, IsErr}
+use Rattle.std.proofs.Common.{◌≡◌, ◌≢◌, ℕ, Bool, true, false, not, ◌&&◌, ◌+◌, ◌<◌, ◌≤◌, ltb, List, length, get_or, refl, sym, ap, ◌∙◌, arith, inl, inr, subst, Ok, Err, Result, IsErr}
 use Rattle.std.proofs.lemmas.Bool.{false≢true, cases_eq, cases_lt, and_parts, lt-ltb, ltb-true, not-true}
 use Rattle.std.specs.Result.{IsErrAnd}
-use Rattle.object_header.specs.Head.{format_of}
+use Rattle.object_header.specs.Formats.{pointer_slots_of}
+use Rattle.object_header.specs.Head.{format_of, literals_of}
 use Rattle.spur_graph.specs.Segments.{Segment, word_in}
 use Rattle.spur_graph.specs.Chunks.{chunks}
 use Rattle.spur_graph.specs.Cells.{Body, Store, is_there, pointer_count}
 use Rattle.spur_graph.specs.ImageCauses.{IsLeast, FindsLeast}
 use Rattle.spur_graph.specs.Ordinary.{body_at, is_ordinary, is_good_word, is_bad_slot}
-use Rattle.heap_cells.specs.Rows.{slots_at}
+use Rattle.heap_cells.specs.Rows.{StandsAt, slots_at}
+use Rattle.heap_cells.proofs.CellKinds.{there_starts}
 use Rattle.heap_cells.proofs.Bodies.{pointers_fit}
+use Rattle.heap_cells.proofs.ObjectReads.{object-pointers}
 use Rattle.heap_cells.proofs.References.{ordinary_there}
 use Rattle.heap_cells.proofs.Starts.{start-read, starts-rise}
-use Rattle.image_checks.specs.Reading.{StandsAt}
-use Rattle.image_checks.specs.Checks.{IsCut, IsBadPointer}
+use Rattle.image_checks.specs.Checks.{IsCut, IsBadPointer, HasOrdinary}
 use Rattle.spur_graph.specs.FileStores.{file_store}
 use Rattle.image_checks.specs.Checked.{IsBadPointerOf}
-use Rattle.heap_cells.proofs.Both.{there_starts}
-use Rattle.image_checks.proofs.Objects.{stands_there, body_there, words_there, slots-length}
+use Rattle.image_checks.proofs.Objects.{stands_there, body_there, slots_there, words_there}
 
 -- an error that is passed on
 pub passed_on : (P : ℕ → Type 0) (r : Result (Unit {0}) ℕ) (n : ℕ) → IsErr r → IsErrAnd r (λ m. m ≡ n) → IsLeast P n → FindsLeast P r
@@ -37,9 +38,6 @@ bad_at h s i e =
     record { ordinary = front.0; inside = ltb-true i (pointer_count (body_at h s)) front.1; no_value = not-true _ parts.1 }
 
 module _ {segs : List Segment} {words : List ℕ} (k : IsCut segs words) where
-  pub object_there : (s : ℕ) → is_ordinary (file_store segs words) s ≡ true → is_there ((file_store segs words).cell s) ≡ true
-  object_there s e = ordinary_there (file_store segs words) s e
-
   pub stands_ordinary : (s : ℕ) → is_ordinary (file_store segs words) s ≡ true → StandsAt words s
   stands_ordinary s e = stands_there k s (ordinary_there (file_store segs words) s e)
 
@@ -53,9 +51,19 @@ module _ {segs : List Segment} {words : List ℕ} (k : IsCut segs words) where
   pub fit_ordinary : (s : ℕ) → is_ordinary (file_store segs words) s ≡ true → pointer_count (body_at (file_store segs words) s) ≤ slots_at words s
   fit_ordinary s e =
       let there = ordinary_there (file_store segs words) s e in
-      let long = ap (λ (b : Body). length b.words) (body_there k s there) in
-      let size = slots-length words s (stands_there k s there).fits in
-      omega (arith, fit_body s there, long, size)
+      omega (arith, fit_body s there, slots_there k s there)
+
+  -- how many pointers the head words tell
+  pub count_ordinary : (s : ℕ) → is_ordinary (file_store segs words) s ≡ true
+      → pointer_slots_of (format_of (get_or words s 0)) (slots_at words s) (literals_of (get_or words (s + 1) 0)) ≡ pointer_count (body_at (file_store segs words) s)
+  count_ordinary s e =
+      let there = ordinary_there (file_store segs words) s e in
+      object-pointers (word_in segs 0) words (chunks words) k.cut s there (k.formed s there)
+
+  -- so many slots are among the words
+  pub slot_inside : (s n i : ℕ) → is_ordinary (file_store segs words) s ≡ true
+      → n ≡ pointer_slots_of (format_of (get_or words s 0)) (slots_at words s) (literals_of (get_or words (s + 1) 0)) → i < n → s + 1 + i < length words
+  slot_inside s n i e count l = omega (arith, count, count_ordinary s e, l, fit_ordinary s e, (stands_ordinary s e).fits)
 
   -- a pointer is a word behind the header
   pub pointer_word : (s i : ℕ) → is_ordinary (file_store segs words) s ≡ true → i < pointer_count (body_at (file_store segs words) s)
@@ -95,6 +103,11 @@ module _ {segs : List Segment} {words : List ℕ} (k : IsCut segs words) where
 
   pub other_good : (s : ℕ) → is_ordinary (file_store segs words) s ≡ false → (n : ℕ) → IsBadPointerOf (file_store segs words) s n → ⊥
   other_good s e n (j, is, format, bad) = false≢true (sym e ∙ (bad_at (file_store segs words) s j bad).ordinary)
+
+  -- what is passed over has no bad slot, where no ordinary object starts there
+  pub passed_over : (has : ℕ → Bool) → HasOrdinary (file_store segs words) has → (at to : ℕ) → ((t : ℕ) → t < at → (n : ℕ) → IsBadPointerOf (file_store segs words) t n → ⊥)
+      → ((t : ℕ) → at ≤ t → t < to → has t ≡ false) → (t : ℕ) → t < to → (n : ℕ) → IsBadPointerOf (file_store segs words) t n → ⊥
+  passed_over has map at to before none t l = elim (cases_lt t at) [ inl low ↦ before t low | inr high ↦ other_good t (sym (map t) ∙ none t high l) ]
 
   -- ---- all objects
 

@@ -2,12 +2,12 @@
 use Rattle.std.proofs.Common.{◌≡◌, ℕ, true, cond, ◌<◌, ◌≤◌, sym, ap, ◌∙◌, subst, arith, length, get_or}
 use Rattle.spur_graph.specs.Cells.{Cell, Moved, Store, first, final, is_there, body_of}
 use Rattle.spur_graph.specs.Ordinary.{roots_slots}
+use Rattle.heap_cells.proofs.CellKinds.{there_is_not_moved}
 use Rattle.image_checks.specs.Checks.{HasFive, IsResolved}
-use Rattle.image_checks.proofs.Shortened.{there-still}
 
 -- an object stays
 pub object-kept : (old new : Store) → IsResolved old new → (s : ℕ) → is_there (old.cell s) ≡ true → new.cell s ≡ old.cell s
-object-kept old new r s there = r.cells s ∙ ap (λ b. cond b (Moved (final old s)) (old.cell s)) (there-still (old.cell s) there)
+object-kept old new r s there = r.cells s ∙ ap (λ b. cond b (Moved (final old s)) (old.cell s)) (there_is_not_moved (old.cell s) there)
 
 pub keeps-five : (old new : Store) → IsResolved old new → HasFive old → HasFive new
 keeps-five old new r f =

@@ -9,11 +9,14 @@ use Rattle.spur_graph.specs.Chunks.{Cuts, chunks}
 use Rattle.spur_graph.specs.Chains.{follow}
 use Rattle.spur_graph.specs.ImageCauses.{IsLeast}
 use Rattle.spur_graph.specs.Ordinary.{is_bad_forwarder}
-use Rattle.spur_graph.specs.Cells.{Store, Cell, Empty, Moved, There, final, cell_in, start_named, is_start, is_moved, is_there, is_formed, body_of}
+use Rattle.spur_graph.specs.Cells.{Store, Moved, final, cell_in, start_named, is_start, is_there, is_formed, body_of}
+use Rattle.object_header.specs.Head.{class_of}
 use Rattle.heap_walk.specs.declared.starts.StartMap.{StartMap}
+use Rattle.heap_walk.specs.Starts.{has_start, covered}
 use Rattle.heap_cells.specs.Rows.{starts_of}
 use Rattle.heap_segments.specs.Rising.{has_address}
 use Rattle.heap_segments.proofs.Rising.{word-cons, word-none, total-cons}
+use Rattle.heap_cells.proofs.CellKinds.{moved_starts, moved_is_not_there, unmoved_is_there, no_start_is_not_moved, no_start_is_not_there, moved_is_told}
 use Rattle.heap_cells.proofs.Chains.{follow-end, follow-step, follow-none}
 use Rattle.heap_cells.proofs.Cutting.{chunks-are}
 use Rattle.heap_cells.proofs.ObjectWrites.{target-written}
@@ -22,21 +25,6 @@ use Rattle.image_checks.specs.Checks.{IsLost, IsResolved}
 use Rattle.spur_graph.specs.FileStores.{file_store}
 use Rattle.image_checks.specs.Chains.{AreKnown, Ends, AreShortened}
 use Rattle.image_checks.proofs.Shortened.{moved_in, target_in, final-is, final-next, moved-same, start-same, forth, ends-forth, back, ends-back, shortens-more}
-
-pub moved-start : (x : Cell) → is_moved x ≡ true → is_start x ≡ true
-moved-start Empty e = e
-moved-start (Moved t) e = refl
-moved-start (There b) e = refl
-
-pub there-start : (x : Cell) → is_there x ≡ true → is_start x ≡ true
-there-start Empty e = e
-there-start (Moved t) e = refl
-there-start (There b) e = refl
-
-pub moved-there : (x : Cell) → is_moved x ≡ true → is_there x ≡ false
-moved-there Empty e = refl
-moved-there (Moved t) e = refl
-moved-there (There b) e = absurd (false≢true e)
 
 -- the word that has an address is one of the segments' words
 word-below : (segs : List Segment) (at a n : ℕ) → word_in segs at a ≡ Some n → n < at + total_words segs
@@ -69,16 +57,23 @@ module _ (segs : List Segment) (words : List ℕ) (starts : StartMap) (k : AreKn
   start-below s on = (start-read (word_in segs 0) words (length words) (chunks words) s k.cut.cut on).below
 
   pub moved-below : (s : ℕ) → moved_in (file_store segs words) s ≡ true → s + 1 < length words
-  moved-below s on = start-below s (moved-start ((file_store segs words).cell s) on)
+  moved-below s on = start-below s (moved_starts ((file_store segs words).cell s) on)
 
   pub moved-within : (s : ℕ) → moved_in (file_store segs words) s ≡ true → s < length words
   moved-within s on = omega (arith, moved-below s on)
+
+  -- a forwarder is told by the map and the header
+  pub told_moved : (s : ℕ) (told : Bool) → told ≡ has_start starts s && nat_eq (class_of (get_or words s 0)) 8 → moved_in (file_store segs words) s ≡ told
+  told_moved s told e =
+      moved_is_told ((file_store segs words).cell s) (has_start starts s) (nat_eq (class_of (get_or words s 0)) 8) (k.marked s)
+      (λ on. (start-read (word_in segs 0) words (length words) (chunks words) s k.cut.cut on).moved)
+      ∙ sym e
 
   none-behind : (x : ℕ) → x ≡ length words → is_start ((file_store segs words).cell x) ≡ false
   none-behind x e = elim (cases_Bool (is_start ((file_store segs words).cell x))) [ inl on ↦ absurd (omega (arith, start-below x on, e)) | inr off ↦ off ]
 
   target-is : (s : ℕ) → moved_in (file_store segs words) s ≡ true → target_in (file_store segs words) s ≡ start_named (word_in segs 0) words (get_or words (s + 1) 0)
-  target-is s on = (start-read (word_in segs 0) words (length words) (chunks words) s k.cut.cut (moved-start ((file_store segs words).cell s) on)).target on
+  target-is s on = (start-read (word_in segs 0) words (length words) (chunks words) s k.cut.cut (moved_starts ((file_store segs words).cell s) on)).target on
 
   pub target-some : (s n : ℕ) → moved_in (file_store segs words) s ≡ true → word_in segs 0 (get_or words (s + 1) 0) ≡ Some n → target_in (file_store segs words) s ≡ n
   target-some s n on e = target-is s on ∙ ap (λ o. unwrap_or o (length words)) e
@@ -103,24 +98,22 @@ module _ (segs : List Segment) (words : List ℕ) (starts : StartMap) (k : AreKn
   pub left-end : (step at s : ℕ) → moved_in (file_store segs words) at ≡ false → IsLeft segs words step at s → final (file_store segs words) s ≡ at
   left-end step at s off left = sym left ∙ follow-end (moved_in (file_store segs words)) (target_in (file_store segs words)) (length words - step) at off
 
+  -- the word names a start that is no forwarder's: the chain ends there, in an object if the map has the start
+  pub arrives : (step at s n : ℕ) → step < length words → moved_in (file_store segs words) at ≡ true → word_in segs 0 (get_or words (at + 1) 0) ≡ Some n → IsLeft segs words step at s
+      → moved_in (file_store segs words) n ≡ false → (final (file_store segs words) s ≡ n) × (is_there ((file_store segs words).cell (final (file_store segs words) s)) ≡ has_start starts n)
+  arrives step at s n l on w left off =
+      let h = file_store segs words in
+      let end = left-end (step + 1) n s off (left-next step at s n l on w left) in
+      (end, ap (λ t. is_there (h.cell t)) end ∙ unmoved_is_there (h.cell n) off ∙ sym (k.marked n))
+
   -- the word names no place
   pub left-nowhere : (step at s : ℕ) → step < length words → moved_in (file_store segs words) at ≡ true → word_in segs 0 (get_or words (at + 1) 0) ≡ None → IsLeft segs words step at s
       → is_there ((file_store segs words).cell (final (file_store segs words) s)) ≡ false
   left-nowhere step at s l on w left =
       let h = file_store segs words in
       let none = none-behind (length words) refl in
-      let e = left-end (step + 1) (length words) s (off-moved (h.cell (length words)) none) (step-to step at s (length words) l on (target-none at on w) left) in
-      ap (λ t. is_there (h.cell t)) e ∙ off-there (h.cell (length words)) none
-    where
-      off-moved : (x : Cell) → is_start x ≡ false → is_moved x ≡ false
-      off-moved Empty e = refl
-      off-moved (Moved t) e = e
-      off-moved (There b) e = refl
-
-      off-there : (x : Cell) → is_start x ≡ false → is_there x ≡ false
-      off-there Empty e = refl
-      off-there (Moved t) e = refl
-      off-there (There b) e = e
+      let e = left-end (step + 1) (length words) s (no_start_is_not_moved (h.cell (length words)) none) (step-to step at s (length words) l on (target-none at on w) left) in
+      ap (λ t. is_there (h.cell t)) e ∙ no_start_is_not_there (h.cell (length words)) none
 
   -- as many steps as there are words lead to no end
   pub left-over : (step at s : ℕ) → length words ≤ step → moved_in (file_store segs words) at ≡ true → IsLeft segs words step at s → is_there ((file_store segs words).cell (final (file_store segs words) s)) ≡ false
@@ -128,7 +121,7 @@ module _ (segs : List Segment) (words : List ℕ) (starts : StartMap) (k : AreKn
       let h = file_store segs words in
       let e : length words - step ≡ 0 = omega arith in
       let here : final h s ≡ at = sym left ∙ ap (λ m. follow (moved_in h) (target_in h) m at) e ∙ follow-none (moved_in h) (target_in h) at in
-      ap (λ t. is_there (h.cell t)) here ∙ moved-there (h.cell at) on
+      ap (λ t. is_there (h.cell t)) here ∙ moved_is_not_there (h.cell at) on
 
   -- ---- writing
 
@@ -274,6 +267,14 @@ module _ (segs : List Segment) (starts : StartMap) (first words : List ℕ) (k :
     | inr n ↦ done-more new q t (before t (omega (arith, n)))
   ]
 
+  -- what is passed over is no forwarder, where the map has no start there
+  pub done-before : (at to : ℕ) → ((t : ℕ) → t < at → IsDone (file_store segs first) (file_store segs words) t) → ((t : ℕ) → at ≤ t → t < to → has_start starts t ≡ false)
+      → (t : ℕ) → t < to → IsDone (file_store segs first) (file_store segs words) t
+  done-before at to done none t l = elim (cases_lt t at) [
+    | inl low ↦ done t low
+    | inr high ↦ λ on. absurd (false≢true (sym (no_start_is_not_moved ((file_store segs first).cell t) (sym (k.marked t) ∙ none t high l)) ∙ on))
+  ]
+
   bad-first : (s : ℕ) → is_bad_forwarder (file_store segs words) s ≡ true → is_bad_forwarder (file_store segs first) s ≡ true
   bad-first s bad =
       let b = both (moved_in (file_store segs words) s) (is_there ((file_store segs words).cell (final (file_store segs words) s))) bad in
@@ -295,19 +296,24 @@ module _ (segs : List Segment) (starts : StartMap) (first words : List ℕ) (k :
     none = λ m low b. omega (arith, none-lost s m done b, b.1);
   }
 
-  pub no-lost : (s : ℕ) → length first ≤ s → ((t : ℕ) → t < s → IsDone (file_store segs first) (file_store segs words) t) → (n : ℕ) → IsLost (file_store segs first) n → ⊥
-  no-lost s l done n b =
+  -- no forwarder is left behind the last start
+  pub done-all : (at : ℕ) → ((t : ℕ) → t < at → IsDone (file_store segs first) (file_store segs words) t) → ((t : ℕ) → at ≤ t → t < covered starts → has_start starts t ≡ false)
+      → (t : ℕ) → t < length first → IsDone (file_store segs first) (file_store segs words) t
+  done-all at done none = done-before at (length first) done (λ t from to. none t from (omega (arith, to, k.covers)))
+
+  pub no-lost : ((t : ℕ) → t < length first → IsDone (file_store segs first) (file_store segs words) t) → (n : ℕ) → IsLost (file_store segs first) n → ⊥
+  no-lost done n b =
       let h = file_store segs first in
       let q = both (moved_in h b.0) (is_there (h.cell (final h b.0))) b.2 in
-      omega (arith, none-lost s n done b, moved-within segs first starts k b.0 q.0)
+      omega (arith, none-lost (length first) n done b, moved-within segs first starts k b.0 q.0)
 
-  pub resolved : (s : ℕ) → length first ≤ s → ((t : ℕ) → t < s → IsDone (file_store segs first) (file_store segs words) t) → IsResolved (file_store segs first) (file_store segs words)
-  resolved s l done = record {
+  pub resolved : ((t : ℕ) → t < length first → IsDone (file_store segs first) (file_store segs words) t) → IsResolved (file_store segs first) (file_store segs words)
+  resolved done = record {
     names = p.store.names;
     starts = p.store.starts;
     to = p.store.to;
     cells = λ t. elim (cases_Bool (moved_in (file_store segs first) t)) [
-      | inl on ↦ rw on ((done t (omega (arith, l, moved-within segs first starts k t on)) on).1)
+      | inl on ↦ rw on ((done t (moved-within segs first starts k t on) on).1)
       | inr off ↦ rw off (elim (p.store.cells t) [ inl e ↦ e | inr q ↦ absurd (false≢true (sym off ∙ q.moved)) ])
     ];
   }

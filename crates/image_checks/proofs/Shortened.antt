@@ -1,16 +1,12 @@
 -- What shortening some forwarders leaves of chains.
 use Rattle.std.proofs.Common.{◌≡◌, ℕ, suc, zero, Bool, true, false, ◌<◌, refl, sym, ap, ◌∙◌, inl, inr, arith}
-use Rattle.std.proofs.lemmas.Bool.{false≢true, cases_Bool, cases_lt}
+use Rattle.std.proofs.lemmas.Bool.{cases_Bool, cases_lt}
 use Rattle.spur_graph.specs.Chains.{follow}
-use Rattle.spur_graph.specs.Cells.{Cell, Empty, Moved, There, Store, final, is_start, is_moved, is_there, target_of}
+use Rattle.spur_graph.specs.Cells.{Moved, Store, final, is_start, is_moved, is_there, target_of}
+use Rattle.heap_cells.proofs.CellKinds.{there_is_not_moved, moved_starts, moved_is_not_there}
 use Rattle.heap_cells.proofs.Chains.{follow-end, follow-step, follow-none, follow-more}
 use Rattle.image_checks.specs.Chains.{Ends, Shortens}
 use Rattle.image_checks.proofs.Enough.{enough}
-
-pub there-still : (x : Cell) → is_there x ≡ true → is_moved x ≡ false
-there-still Empty e = refl
-there-still (Moved t) e = absurd (false≢true e)
-there-still (There b) e = refl
 
 -- two ends of one chain are one
 ends-meet : (moved : ℕ → Bool) (target : ℕ → ℕ) (m n s : ℕ) → moved (follow moved target m s) ≡ false → moved (follow moved target n s) ≡ false → follow moved target m s ≡ follow moved target n s
@@ -31,11 +27,7 @@ module _ (h : Store) where
   final-is s = refl
 
   pub final-still : (s : ℕ) → Ends h s → moved_in h (final h s) ≡ false
-  final-still s e = there-still (h.cell (final h s)) e
-
-  -- an end leads to itself
-  pub final-end : (s : ℕ) → moved_in h s ≡ false → final h s ≡ s
-  final-end s e = final-is s ∙ follow-end (moved_in h) (target_in h) h.names s e
+  final-still s e = there_is_not_moved (h.cell (final h s)) e
 
   -- what a forwarder names leads where it leads
   pub final-next : (s : ℕ) → moved_in h s ≡ true → Ends h s → final h (target_in h s) ≡ final h s
@@ -48,20 +40,10 @@ module _ (old new : Store) (k : Shortens old new) where
   moved-same s = elim (k.cells s) [ inl e ↦ ap is_moved e | inr q ↦ ap is_moved q.is ∙ sym q.moved ]
 
   pub start-same : (s : ℕ) → is_start (new.cell s) ≡ is_start (old.cell s)
-  start-same s = elim (k.cells s) [ inl e ↦ ap is_start e | inr q ↦ ap is_start q.is ∙ sym (moved-start (old.cell s) q.moved) ]
-    where
-      moved-start : (x : Cell) → is_moved x ≡ true → is_start x ≡ true
-      moved-start Empty e = e
-      moved-start (Moved t) e = refl
-      moved-start (There b) e = refl
+  start-same s = elim (k.cells s) [ inl e ↦ ap is_start e | inr q ↦ ap is_start q.is ∙ sym (moved_starts (old.cell s) q.moved) ]
 
   pub there-same : (s : ℕ) → is_there (new.cell s) ≡ is_there (old.cell s)
-  there-same s = elim (k.cells s) [ inl e ↦ ap is_there e | inr q ↦ ap is_there q.is ∙ sym (moved-there (old.cell s) q.moved) ]
-    where
-      moved-there : (x : Cell) → is_moved x ≡ true → is_there x ≡ false
-      moved-there Empty e = refl
-      moved-there (Moved t) e = refl
-      moved-there (There b) e = absurd (false≢true e)
+  there-same s = elim (k.cells s) [ inl e ↦ ap is_there e | inr q ↦ ap is_there q.is ∙ sym (moved_is_not_there (old.cell s) q.moved) ]
 
   ahead : (n s : ℕ) → moved_in old (follow (moved_in old) (target_in old) n s) ≡ false → follow (moved_in new) (target_in new) n s ≡ follow (moved_in old) (target_in old) n s
   ahead zero s e = follow-none (moved_in new) (target_in new) s ∙ sym (follow-none (moved_in old) (target_in old) s)

@@ -7,10 +7,9 @@ use Rattle.heap_walk.specs.declared.starts.StartMap.{StartMap}
 use Rattle.heap_walk.specs.Starts.{has_start, covered}
 use Rattle.spur_graph.specs.Segments.{Segment}
 use Rattle.spur_graph.specs.Cells.{Body, Moved, Store, first, lead, is_there, any_below, body_from}
-use Rattle.spur_graph.specs.Ordinary.{page_entries, page_places, passes, body_at, root_slot, tells, is_nil_slot, is_entered, is_ordinary, is_good_reference, is_bad_page, is_bad_entry, is_bad_slot}
-use Rattle.heap_cells.specs.Rows.{slots_at, slots_from}
-use Rattle.image_checks.specs.Reading.{StandsAt}
-use Rattle.image_checks.specs.Checks.{IsCut, HasFive, HasStarts, IsResolved, IsLost}
+use Rattle.spur_graph.specs.Ordinary.{page_entries, page_places, passes, body_at, root_slot, tells, is_nil_slot, is_entered, is_bad_page, is_bad_slot}
+use Rattle.heap_cells.specs.Rows.{StandsAt, slots_at, slots_from}
+use Rattle.image_checks.specs.Checks.{IsCut, HasFive, HasStarts}
 use Rattle.spur_graph.specs.FileStores.{file_store}
 
 -- the words are cut into formed chunks, whose starts the map has, and each forwarder names an object
@@ -25,11 +24,6 @@ pub record AreFirst (h : Store) (firsts : List ℕ) : Type 0 where
   pub roots : HasFive h
   pub count : length firsts ≡ 5
   pub is : (k : ℕ) → k < 5 → slice_index firsts k ≡ first h k
-
--- the word leads to this object, or to none
-abbrev pub Leads : Store → ℕ → Option ℕ → Type 0
-Leads h word None = (s : ℕ) → lead h word ≡ Some s → is_there (h.cell s) ≡ false
-Leads h word (Some s) = (lead h word ≡ Some s) × (is_there (h.cell s) ≡ true)
 
 -- one of the first `n` slots of the hidden roots names this start, which is not that of nil
 abbrev pub is_taken : Store → ℕ → ℕ → Bool
@@ -74,20 +68,3 @@ is_good_entry h i word = passes (λ s. nat_eq s (first h 0) || (not (nat_eq i 0)
 -- a pointer slot of this object, of another format than 3, that has no value
 abbrev pub IsBadPointerOf : Store → ℕ → ℕ → Type 0
 IsBadPointerOf h s n = (i : ℕ) × (n ≡ s + 1 + i) × ((body_at h s).format ≢ 3) × (is_bad_slot h s i ≡ true)
-
--- two stores in which references lead to the same objects
-pub record IsSame (old new : Store) : Type 0 where
-  pub resolved : (s t : ℕ) → new.cell s ≡ Moved t → is_there (new.cell t) ≡ true
-  pub first : (k : ℕ) → first new k ≡ first old k
-  pub there : (s : ℕ) → is_there (new.cell s) ≡ is_there (old.cell s)
-  pub body : (s : ℕ) → body_at new s ≡ body_at old s
-  pub lead : (word : ℕ) → lead new word ≡ lead old word
-  pub ordinary : (s : ℕ) → is_ordinary new s ≡ is_ordinary old s
-  pub pages : (i : ℕ) → is_bad_page new i ≡ is_bad_page old i
-  pub entries : (i : ℕ) → is_bad_entry new i ≡ is_bad_entry old i
-  pub slots : (s i : ℕ) → is_bad_slot new s i ≡ is_bad_slot old s i
-  pub references : (word : ℕ) → is_good_reference new word ≡ is_good_reference old word
-
--- where each forwarder leads to an object and they are resolved, the same is bad as before
-abbrev pub ResolvedIsSame : Type 0
-ResolvedIsSame = (old new : Store) → IsResolved old new → ((n : ℕ) → IsLost old n → ⊥) → IsSame old new

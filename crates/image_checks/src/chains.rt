@@ -11,9 +11,9 @@ ghost use Rattle.image_checks.specs.Checks.{AreOf, IsCut, HasStarts, IsResolved,
 ghost use Rattle.spur_graph.specs.FileStores.{file_store};
 ghost use Rattle.image_checks.specs.Chains.{AreKnown, Ends, ChangesForwarders, AreShortened};
 
-use crate::reading::{is_forwarder, is_object};
 use heap_segments::AddressMap;
 use heap_walk::StartMap;
+use image_references::is_forwarder;
 
 /// The address of the object in which the chain from the forwarder at `s` ends, if it ends in one.
 fn end_of(words: &[u64], map: &AddressMap, starts: &StartMap, s: usize) -> Option<u64>
@@ -31,11 +31,8 @@ fn end_of(words: &[u64], map: &AddressMap, starts: &StartMap, s: usize) -> Optio
             Some(next) => next,
             None => return None,
         };
-        if is_object(words, starts, at) {
-            return Some(word);
-        }
         if !is_forwarder(words, starts, at) {
-            return None;
+            return if starts.has(at) { Some(word) } else { None };
         }
     }
     None
@@ -65,6 +62,7 @@ fn shorten(words: &mut [u64], map: &AddressMap, starts: &StartMap, s: usize, end
 }
 
 /// Resolves the forwarder at `s` and those behind it, if there is one. The answer is whether its chain ends in an object.
+#[tactic(auto, using(crate::proofs::Resolving::told_moved))]
 fn resolve(words: &mut [u64], map: &AddressMap, starts: &StartMap, s: usize) -> bool
     requires known { AreKnown map.now words.old starts.now }
     requires inside { s < length words.old }
@@ -105,10 +103,12 @@ pub fn resolve_forwarders(
     ensures long { length words.new ≡ length words.old }
     ensures row { chunks words.new ≡ chunks words.old }
 {
-    'starts: for s in 0..words.len() {
+    let mut at = 0;
+    'starts: while let Some(s) = starts.next(at) {
         if !resolve(words, map, starts, s) {
             return Err(s + 1);
         }
+        at = s + 1;
     }
     Ok(())
 }

@@ -1,28 +1,22 @@
 // The class table: its pages' entries, and the classes that are entered in it.
 ghost use Rattle.std.specs.Prelude.{◌≡◌, ◌+◌, ◌*◌, ◌<◌, ◌≤◌, length, IfSome, true};
 ghost use Rattle.heap_walk.specs.Starts.{has_start, covered};
-ghost use Rattle.spur_graph.specs.Cells.{is_there};
 ghost use Rattle.spur_graph.specs.ImageCauses.{FindsLeast};
-ghost use Rattle.spur_graph.specs.Ordinary.{page_places, page_entries, class_limit, is_no_index, has_entry, is_entered};
-ghost use Rattle.image_checks.specs.Checks.{IsBadIndex, HasOrdinary};
+ghost use Rattle.spur_graph.specs.Ordinary.{page_places, page_entries, class_limit, is_ordinary, is_no_index, has_entry, is_entered};
+ghost use Rattle.image_checks.specs.Checks.{IsCut, IsBadIndex, HasOrdinary};
 ghost use Rattle.spur_graph.specs.FileStores.{file_store};
 ghost use Rattle.image_checks.specs.Checked.{IsChecked, AreFirst, HasPages, HasPage, FindsWithin, is_good_entry};
 
-use crate::pages::{PAGE_ENTRIES, PAGE_PLACES, named_at};
-use crate::references::lead;
+use crate::pages::named_at;
 use heap_segments::AddressMap;
 use heap_walk::StartMap;
+use image_references::ordinary_start;
 use object_header::{BRIDGE_CLASS, FORWARDER_CLASS, Header};
+use spur_graph::{PAGE_ENTRIES, PAGE_PLACES};
 
 /// The start of the page that slot `place` of the hidden roots names; none where it names nil.
-fn page_at(
-    words: &[u64],
-    map: &AddressMap,
-    starts: &StartMap,
-    firsts: &[usize],
-    place: usize,
-) -> Option<usize>
-    requires checked { IsChecked map.now words.now starts.now }
+fn page_at(words: &[u64], map: &AddressMap, firsts: &[usize], place: usize) -> Option<usize>
+    requires cut { IsCut map.now words.now }
     requires first { AreFirst (file_store map.now words.now) firsts.now }
     requires pages { HasPages (file_store map.now words.now) }
     requires within { place < page_places }
@@ -40,33 +34,37 @@ fn is_no_index(hash: u64) -> bool
     hash == 0 || hash == BRIDGE_CLASS || hash == FORWARDER_CLASS
 }
 
-/// Whether entry `index` of the class table leads to the object that starts at `start`.
+/// Whether entry `index` of the class table leads to the ordinary object that starts at `start`.
 fn has_entry(
     words: &[u64],
     map: &AddressMap,
     starts: &StartMap,
+    ordinary: &StartMap,
     firsts: &[usize],
     index: usize,
     start: usize,
 ) -> bool
     requires checked { IsChecked map.now words.now starts.now }
+    requires covers { covered ordinary.now ≡ length words.now }
+    requires map { HasOrdinary (file_store map.now words.now) (has_start ordinary.now) }
     requires first { AreFirst (file_store map.now words.now) firsts.now }
     requires pages { HasPages (file_store map.now words.now) }
     requires low { index < class_limit }
-    requires there { is_there ((file_store map.now words.now).cell start) ≡ true }
+    requires there { is_ordinary (file_store map.now words.now) start ≡ true }
     ensures { result ≡ has_entry (file_store map.now words.now) index start }
 {
-    let Some(page) = page_at(words, map, starts, firsts, index / PAGE_ENTRIES) else {
+    let Some(page) = page_at(words, map, firsts, index / PAGE_ENTRIES) else {
         return false;
     };
     let _end = words.len();
-    match lead(words, map, starts, words[page + 1 + index % PAGE_ENTRIES]) {
+    let word = words[page + 1 + index % PAGE_ENTRIES];
+    match ordinary_start(words, map, starts, ordinary, word) {
         Some(entry) => entry == start,
         None => false,
     }
 }
 
-/// Whether the object that starts there is an entered class: an ordinary object that the class table has at its hash.
+/// Whether the ordinary object that starts there is an entered class: one that the class table has at its hash.
 fn is_entered(
     words: &[u64],
     map: &AddressMap,
@@ -80,18 +78,15 @@ fn is_entered(
     requires map { HasOrdinary (file_store map.now words.now) (has_start ordinary.now) }
     requires first { AreFirst (file_store map.now words.now) firsts.now }
     requires pages { HasPages (file_store map.now words.now) }
-    requires there { is_there ((file_store map.now words.now).cell start) ≡ true }
+    requires there { is_ordinary (file_store map.now words.now) start ≡ true }
     requires inside { start < length words.now }
     ensures { result ≡ is_entered (file_store map.now words.now) start }
 {
-    if !ordinary.has(start) {
-        return false;
-    }
     let hash = Header(words[start]).hash();
     if is_no_index(hash) {
         return false;
     }
-    has_entry(words, map, starts, firsts, hash as usize, start)
+    has_entry(words, map, starts, ordinary, firsts, hash as usize, start)
 }
 
 /// Whether a word is good for entry `index` of the class table: it leads to nil, or, but for entry 0, to an entered class.
@@ -111,7 +106,7 @@ fn is_good_entry(
     requires pages { HasPages (file_store map.now words.now) }
     ensures { result ≡ is_good_entry (file_store map.now words.now) index word }
 {
-    match lead(words, map, starts, word) {
+    match ordinary_start(words, map, starts, ordinary, word) {
         Some(start) => start == firsts[0]
             || (index != 0 && is_entered(words, map, starts, ordinary, firsts, start)),
         None => false,
@@ -136,7 +131,7 @@ fn check_page(
     requires within { place < page_places }
     ensures { FindsWithin (IsBadIndex (file_store map.now words.now)) (place * page_entries) (place * page_entries + page_entries) result }
 {
-    let Some(page) = page_at(words, map, starts, firsts, place) else {
+    let Some(page) = page_at(words, map, firsts, place) else {
         return Ok(());
     };
     let _end = words.len();

@@ -6,31 +6,17 @@ ghost use Rattle.spur_graph.specs.Segments.{word_in};
 ghost use Rattle.spur_graph.specs.Cells.{is_there};
 ghost use Rattle.spur_graph.specs.ImageCauses.{FindsLeast};
 ghost use Rattle.spur_graph.specs.Ordinary.{page_places, page_entries, root_slot, is_bad_page};
-ghost use Rattle.heap_cells.specs.Rows.{slots_at};
+ghost use Rattle.heap_cells.specs.Rows.{StandsAt, slots_at};
 ghost use Rattle.image_checks.specs.Checks.{IsCut, IsBadPlace, HasOrdinary};
 ghost use Rattle.spur_graph.specs.FileStores.{file_store};
-ghost use Rattle.image_checks.specs.Reading.{StandsAt};
 ghost use Rattle.image_checks.specs.Checked.{IsChecked, AreFirst, AreLeft, AreWithin, is_free_page};
 
-use crate::reading::{is_object, slots_of};
+use heap_cells::slots_of;
 use heap_segments::AddressMap;
 use heap_walk::StartMap;
-use object_header::Header;
-
-/// Slots of the hidden roots that are places of pages.
-pub(crate) const PAGE_PLACES: usize = 4096;
-
-/// Entries of a class table page.
-pub(crate) const PAGE_ENTRIES: usize = 1024;
-
-/// Format of an object with indexable pointer slots and no others.
-const ARRAY_FORMAT: u64 = 2;
-
-/// The index of the free lists object among the first five.
-const FREE_LISTS: usize = 3;
-
-/// The index of the hidden roots among the first five.
-const HIDDEN_ROOTS: usize = 4;
+use image_references::is_forwarder;
+use object_header::{ARRAY_FORMAT, Header};
+use spur_graph::{FREE_LISTS, HIDDEN_ROOTS, PAGE_ENTRIES, PAGE_PLACES};
 
 /// The word that slot `place` of the hidden roots names, if it names one.
 pub(crate) fn named_at(
@@ -132,9 +118,11 @@ pub fn mark_objects(words: &[u64], map: &AddressMap, starts: &StartMap, objects:
     ensures objects { (s : ℕ) → has_start objects.new s ≡ is_there ((file_store map.now words.now).cell s) }
     ensures covers { covered objects.new ≡ covered objects.old }
 {
-    'starts: for start in 0..words.len() {
-        if is_object(words, starts, start) {
+    let mut at = 0;
+    'starts: while let Some(start) = starts.next(at) {
+        if !is_forwarder(words, starts, start) {
             objects.set(start);
         }
+        at = start + 1;
     }
 }

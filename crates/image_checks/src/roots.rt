@@ -9,22 +9,11 @@ ghost use Rattle.image_checks.specs.Checks.{HasFive};
 ghost use Rattle.spur_graph.specs.FileStores.{file_store};
 
 use crate::head::known_head;
-use object_header::{FORWARDER_CLASS, FREE_CLASS, Head, Header};
-
-/// The place of the free lists object among the chunks.
-const FREE_LISTS: usize = 3;
-
-/// That of the hidden roots.
-const HIDDEN_ROOTS: usize = 4;
+use object_header::{ARRAY_FORMAT, FORWARDER_CLASS, FREE_CLASS, Head, Header};
+use spur_graph::{FREE_LISTS, HIDDEN_ROOTS, HIDDEN_ROOTS_SLOTS};
 
 /// The greatest format that is no method's.
 const LAST_UNIT_FORMAT: u64 = 23;
-
-/// The format of the hidden roots.
-const ARRAY_FORMAT: u64 = 2;
-
-/// The number of their slots.
-const HIDDEN_ROOTS_SLOTS: usize = 4104;
 
 /// Whether the chunk can't be chunk `k` of the first five.
 fn is_bad_root(k: usize, head: Head) -> bool

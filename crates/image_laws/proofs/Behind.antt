@@ -1,10 +1,9 @@
 -- A free chunk behind settled words.
-use Rattle.std.proofs.Common.{◌≡◌, ℕ, true, ◌+◌, ◌<◌, ◌≤◌, List, [], ◌∷◌, ◌++◌, length, map, get_or, refl, sym, ap, ◌∙◌, subst, inl, inr, arith, append_assoc, length-append}
+use Rattle.std.proofs.Common.{◌≡◌, ℕ, true, ◌<◌, ◌≤◌, List, [], ◌∷◌, ◌++◌, length, map, get_or, refl, sym, ap, ◌∙◌, subst, arith, append_assoc, length-append}
 use Rattle.std.proofs.lemmas.List.{get_or_append_left, get_or-append-add}
-use Rattle.std.proofs.lemmas.Bool.{cases_Bool}
 use Rattle.std.proofs.lemmas.List.Elements.{All-append, Contains-get_or}
 use Rattle.std.specs.List.{All}
-use Rattle.spur_graph.specs.Chunks.{Chunk, leads, chunk_of, Cuts, chunks}
+use Rattle.spur_graph.specs.Chunks.{Chunk, chunk_of, Cuts, chunks}
 use Rattle.spur_graph.specs.Cells.{Empty, Store, cell_in, is_moved, target_of}
 use Rattle.spur_graph.specs.Heaps.{IsClear, heap_to, heap_store}
 use Rattle.heap_cells.specs.Rows.{starts_of, AreStarts}
@@ -14,16 +13,8 @@ use Rattle.heap_cells.proofs.Both.{Both, moved-same, target-same, target_starts}
 use Rattle.heap_cells.proofs.Members.{in_list, start_of_chunk, listed}
 use Rattle.heap_cells.proofs.Starts.{starts-rise}
 use Rattle.heap_cells.proofs.Writing.{reads-cells}
-use Rattle.heap_cells.proofs.Appending.{appended}
+use Rattle.heap_cells.proofs.Appending.{shifted_start, shifted_size, appended}
 use Rattle.image_laws.specs.Behind.{AreClear, GoesOn, SettledGoesOn}
-
-moved_start : (n w : ℕ) → (chunk_of n w).start ≡ n + (chunk_of 0 w).start
-unfolding chunk_of
-moved_start n w = elim (cases_Bool (leads w)) [ inl is ↦ rw is (omega arith) | inr off ↦ rw off (omega arith) ]
-
-moved_size : (n w : ℕ) → (chunk_of n w).size ≡ (chunk_of 0 w).size
-unfolding chunk_of
-moved_size n w = refl
 
 one : {X : Type 0} (P : X → Type 0) (x : X) → P x → All P (x ∷ [])
 one P x p = λ j d l. subst P (let e : j ≡ 0 = omega (arith, l) in ap (λ k. get_or (x ∷ []) k d) (sym e)) p
@@ -79,14 +70,14 @@ module _ (h : Store) (words room : List ℕ) (n : IsNamed h) (l : IsLoadable h) 
       let below : c.start < length words = subst (λ u. u < length words) m.2 (stand.below m.0 c.start m.1) in
       subst IsClear (sym (get_or_append_left words room 0 c.start below)) (all j d k))
       (one (λ (c : Chunk). IsClear (get_or (words ++ room) c.start 0)) last
-      (subst IsClear (sym (ap (λ k. get_or (words ++ room) k 0) (moved_start (length words) (get_or room 0 0)) ∙ get_or-append-add words room (chunk_of 0 (get_or room 0 0)).start 0)) new)))
+      (subst IsClear (sym (ap (λ k. get_or (words ++ room) k 0) (shifted_start (length words) (get_or room 0 0)) ∙ get_or-append-add words room (chunk_of 0 (get_or room 0 0)).start 0)) new)))
 
   goes_on : GoesOn h words room
   goes_on = record {
     settled = settled;
     cut = subst (Cuts (words ++ room) 0 (length (words ++ room))) (sym on.chunks) on.row;
     row = on.chunks;
-    size = moved_size (length words) (get_or room 0 0) ∙ free.size;
+    size = shifted_size (length words) (get_or room 0 0) ∙ free.size;
     clear = clear;
   }
 

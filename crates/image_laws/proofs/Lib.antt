@@ -3,6 +3,8 @@ pub mod Causes
 pub mod Rows
 pub mod Counted
 pub mod Named
+pub mod FileWords
+pub mod Accepted
 pub mod Behind
 pub mod Whole
 pub mod Joined

@@ -1,6 +1,6 @@
 -- Resolving forwarders changes no test, no value and no graph.
 use Rattle.std.proofs.Common.{◌≡◌, ℕ, suc, zero, true, false, cond, not, ◌&&◌, ◌||◌, ◌/◌, ◌%◌, ◌<◌, ◌≤◌, eqb, ltb, List, filter, map, length, get_or, refl, sym, ap, ◌∙◌, subst, inl, inr, Option, Some, None}
-use Rattle.std.proofs.lemmas.Bool.{false≢true, cases_Bool, not-false}
+use Rattle.std.proofs.lemmas.Bool.{false≢true, cases_Bool}
 use Rattle.std.specs.Option.{unwrap_or, option_map}
 use Rattle.std.specs.List.{All, Contains, range_with_len, sum_by, count_by}
 use Rattle.std.specs.Ordering.{nat_cmp}
@@ -18,7 +18,8 @@ use Rattle.spur_graph.specs.Ordinary.{page_places, page_entries, class_limit, is
 use Rattle.spur_graph.specs.CellGraph.{reference, read, node_of, nodes_of, has_class, classes_of, graph_of}
 use Rattle.spur_graph.specs.CellRoom.{free_sizes, ordinary_chunks, internal_chunks, spot_of, room_of}
 use Rattle.heap_cells.specs.Settled.{IsLoadable, IsNamed, settled_word, word_of}
-use Rattle.heap_cells.proofs.Chains.{follow-end, follow-step}
+use Rattle.heap_cells.proofs.CellKinds.{there_is_not_moved}
+use Rattle.heap_cells.proofs.Chains.{follow-end, follow-step, good_forwarder_ends}
 use Rattle.heap_cells.proofs.Below.{any_below-same, passes-same}
 use Rattle.image_checks.specs.Checks.{IsResolved}
 use Rattle.image_laws.specs.Resolved.{ResolvedIsSame}
@@ -53,11 +54,6 @@ resolved_target t Empty e = absurd (false≢true e)
 resolved_target t (Moved u) e = refl
 resolved_target t (There b) e = absurd (false≢true e)
 
-there_stays : (c : Cell) → is_there c ≡ true → is_moved c ≡ false
-there_stays Empty e = refl
-there_stays (Moved t) e = absurd (false≢true e)
-there_stays (There b) e = refl
-
 module _ {old new : Store} (k : IsResolved old new) (good : (s : ℕ) → is_bad_forwarder old s ≡ false) where
   start-same : (s : ℕ) → is_start (new.cell s) ≡ is_start (old.cell s)
   start-same s = ap is_start (k.cells s) ∙ resolved_start (final old s) (old.cell s)
@@ -78,7 +74,7 @@ module _ {old new : Store} (k : IsResolved old new) (good : (s : ℕ) → is_bad
   first-same j = λ x. get_or (k.starts x) j 0
 
   ends_there : (s : ℕ) → is_moved (old.cell s) ≡ true → is_there (old.cell (final old s)) ≡ true
-  ends_there s e = not-false _ (sym (ap (λ b. b && not (is_there (old.cell (final old s)))) e) ∙ good s)
+  ends_there s e = good_forwarder_ends old s (good s) e
 
   target-new : (s : ℕ) → is_moved (old.cell s) ≡ true → target_of (new.cell s) ≡ final old s
   target-new s e = ap target_of (k.cells s) ∙ resolved_target (final old s) (old.cell s) e
@@ -91,7 +87,7 @@ module _ {old new : Store} (k : IsResolved old new) (good : (s : ℕ) → is_bad
   chain-same (suc n) s t on to there e =
       follow-step (λ u. is_moved (new.cell u)) (λ u. target_of (new.cell u)) n s (moved-same s ∙ on)
       ∙ ap (follow (λ u. is_moved (new.cell u)) (λ u. target_of (new.cell u)) n) to
-      ∙ follow-end (λ u. is_moved (new.cell u)) (λ u. target_of (new.cell u)) n t (moved-same t ∙ there_stays (old.cell t) there)
+      ∙ follow-end (λ u. is_moved (new.cell u)) (λ u. target_of (new.cell u)) n t (moved-same t ∙ there_is_not_moved (old.cell t) there)
 
   final-same : (s : ℕ) → final new s ≡ final old s
   unfolding final

@@ -5,3 +5,4 @@ pub mod Named
 pub mod Behind
 pub mod Whole
 pub mod Joined
+pub mod Accepted

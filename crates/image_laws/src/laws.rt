@@ -1,4 +1,5 @@
 // The laws, for the loader. They hold of the definitions, so that these functions do nothing.
+ghost use Rattle.image_laws.specs.Accepted.{AcceptedIsClosed};
 ghost use Rattle.image_laws.specs.Resolved.{ResolvedIsSame};
 ghost use Rattle.image_laws.specs.Named.{FileIsNamed, FileHasNames};
 ghost use Rattle.image_laws.specs.Whole.{LoadedIsWhole, HeapStands};
@@ -110,4 +111,9 @@ pub fn checked_can_settle()
 /// The settled words with the room behind them stand for the graph and the room of the bytes.
 pub fn made_stands()
     ensures { MadeStands }
+{}
+
+/// The graph of an image that is accepted is closed.
+pub fn accepted_is_closed()
+    ensures { AcceptedIsClosed }
 {}

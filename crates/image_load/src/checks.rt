@@ -17,13 +17,8 @@ use image_checks::{
     first_bad_entry, first_bad_object, first_bad_root, first_bad_slot, is_good_reference,
     mark_objects, mark_starts, resolve_forwarders, take_pages,
 };
+use spur_graph::{HIDDEN_ROOTS, PAGE_ENTRIES};
 use std::alloc::Global;
-
-/// Entries of a class table page.
-const PAGE_ENTRIES: usize = 1024;
-
-/// Where the hidden roots are among the first five chunks.
-const HIDDEN_ROOTS: usize = 4;
 
 /// What was found in the words of an image to which no cause applies.
 #[derive(Drop)]

@@ -47,7 +47,7 @@ pub(crate) fn read_image<F: Files>(
     let Ok(mut bare) = Bare::new(alloc, map.words() + limits.room, limits) else {
         return Err(LoadError::Memory);
     };
-    match read_words(alloc, files, name, &map, &mut bare.region) {
+    match read_words(alloc, files, name, &map, bare.region_mut()) {
         Ok(()) => Ok(Image { header, map, bare }),
         Err(error) => Err(LoadError::from(error)),
     }

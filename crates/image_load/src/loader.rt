@@ -33,11 +33,13 @@ fn adopt(alloc: Global, image: Image) -> Result<Heap, LoadError>
         map,
         mut bare,
     } = image;
-    let special = match settle_front(alloc, &mut bare.region, &map, header.special) {
+    let room = bare.limits.room;
+    let region = bare.region_mut();
+    let special = match settle_front(alloc, region, &map, header.special) {
         Ok(special) => special,
         Err(error) => return Err(error),
     };
-    put_room(&mut bare.region, map.words(), bare.limits.room);
+    put_room(region, map.words(), room);
     Ok(Heap::adopt(
         bare,
         special,

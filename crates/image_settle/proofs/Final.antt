@@ -1,5 +1,5 @@
 -- What stands in the words after the two walks.
-use Rattle.std.proofs.Common.{◌≡◌, ◌≢◌, ℕ, suc, zero, false, cond, ◌+◌, ◌-◌, ◌/◌, ◌%◌, ◌<◌, ◌≤◌, List, [], ◌∷◌, length, get_or, drop, refl, sym, ap, ◌∙◌, subst, inl, inr, arith, nat_eq, Option, Some, None}
+use Rattle.std.proofs.Common.{◌≡◌, ◌≢◌, ℕ, suc, zero, false, cond, ◌+◌, ◌-◌, ◌/◌, ◌%◌, ◌<◌, ◌≤◌, List, [], ◌∷◌, length, get_or, drop, refl, sym, ap, ◌∙◌, subst, inl, inr, arith, nat_eq, Some, None}
 use Rattle.std.specs.Option.{unwrap_or}
 use Rattle.std.specs.List.{Contains, All}
 use Rattle.std.proofs.lemmas.Bool.{cases_eq, cases_lt, cases_Bool, ne_eqb, eq-eqb, lt-ltb, le-ltb}
@@ -18,10 +18,12 @@ use Rattle.heap_cells.specs.Rows.{starts_of}
 use Rattle.heap_cells.specs.RowWrites.{KeepsChunk}
 use Rattle.heap_cells.proofs.Members.{in_list}
 use Rattle.heap_cells.proofs.Cutting.{Stands, stands, shape, cell-at, chunks-are}
+use Rattle.heap_cells.proofs.ObjectWrites.{to_object}
 use Rattle.heap_cells.proofs.Writing.{keeps-row, keeps-same, cells-mapped}
 use Rattle.heap_cells.proofs.Fronts.{length-front, front-in, length-from, from-in}
-use Rattle.image_settle.specs.Settles.{IsReady, IsCleared, IsTurned, unmarked, settled_slot, slot_in}
+use Rattle.image_settle.specs.Settles.{IsReady, HasNoUnusedBits, IsCleared, IsTurned, unmarked, settled_slot, slot_in}
 use Rattle.spur_graph.specs.FileStores.{file_store}
+use Rattle.image_settle.proofs.Ready.{told}
 
 -- ---- words of one object
 
@@ -72,10 +74,6 @@ heap_named t n =
     let a : word_of t % 8 ≡ 0 = omega arith in
     let b : word_of t / 8 ≡ t = omega arith in
     ap (λ k. unwrap_or (cond k (Some (word_of t / 8)) None) n) (eq-eqb (word_of t % 8) 0 a) ∙ b
-
-told : (to : ℕ → Option ℕ) (words : List ℕ) (c : Chunk) → read_cell to words c ≡ cell_from (fields_of (get_or words c.start 0)) (start_named to words (get_or words (c.start + 1) 0)) (slots_of words c)
-unfolding read_cell
-told to words c = refl
 
 -- fields without marks tell the same count
 leads-same : (v w : ℕ) → fields_of v ≡ unmarked (fields_of w) → leads v ≡ leads w
@@ -164,6 +162,13 @@ module _ (segs : List Segment) (start_map ordinary_map : StartMap) (firsts old :
         let e = final_header c (subst (λ xs. Contains xs c) settled_chunks (Contains-get_or (chunks new) k d l)) in
         record { marked = ap (λ (f : Fields). f.marked) e; grey = ap (λ (f : Fields). f.grey) e; remembered = ap (λ (f : Fields). f.remembered) e }
 
+    pub settled_unused : All (λ (c : Chunk). HasNoUnusedBits (get_or new c.start 0)) (chunks new)
+    settled_unused k d l =
+        let c = get_or (chunks new) k d in
+        let m = subst (λ xs. Contains xs c) settled_chunks (Contains-get_or (chunks new) k d l) in
+        let p = (placed c m).lies in
+        subst HasNoUnusedBits (sym (new_header c m)) ((cleared c m c.start p.lead (omega (arith, p.room))).unused refl)
+
     mid_class : (c : Chunk) → Contains cs c → class_of (get_or mid c.start 0) ≡ class_of (get_or old c.start 0)
     mid_class c m = ap (λ (f : Fields). f.class) (header c m)
 
@@ -203,7 +208,8 @@ module _ (segs : List Segment) (start_map ordinary_map : StartMap) (firsts old :
         let b = body_from (fields_of (get_or old c.start 0)) (slots_of old c) in
         let long_old : length (slots_of old c) ≡ c.slots = omega (arith, length-take c.slots (drop (c.start + 1) old), length-drop (c.start + 1) old, p.slots, p.before) in
         let long_new : length (slots_of new c) ≡ c.slots = omega (arith, length-take c.slots (drop (c.start + 1) new), length-drop (c.start + 1) new, p.slots, p.before, len, new_len) in
-        let there : h.cell c.start ≡ There b = told_cell c m ∙ made (fields_of (get_or old c.start 0)) (start_named (word_in segs 0) old (get_or old (c.start + 1) 0)) (slots_of old c) n o in
+        let f : Fields = fields_of (get_or old c.start 0) in
+        let there : h.cell c.start ≡ There b = told_cell c m ∙ to_object f (start_named (word_in segs 0) old (get_or old (c.start + 1) 0)) (slots_of old c) (ne_eqb f.class 0 n) (ne_eqb f.class 8 o) in
         ext_get_or 0 _ _ (long_new ∙ sym long_old ∙ sym (length-settled h c.start b)) (λ i l.
         let low : i < c.slots = omega (arith, l, long_new) in
         let old_word : get_or (slots_of old c) i 0 ≡ get_or old (c.start + 1 + i) 0 = get_or-take c.slots (drop (c.start + 1) old) i 0 low ∙ get_or-drop (c.start + 1) old i 0 in
@@ -213,9 +219,6 @@ module _ (segs : List Segment) (start_map ordinary_map : StartMap) (firsts old :
         ∙ ap (λ x. slot_in h c.start x i (get_or old (c.start + 1 + i) 0)) there
         ∙ ap (settled_slot h c.start b i) (sym old_word)
         ∙ sym (settled-at h c.start b i (omega (arith, low, long_old))))
-      where
-        made : (f : Fields) (t : ℕ) (ws : List ℕ) → f.class ≢ 0 → f.class ≢ 8 → cell_from f t ws ≡ There (body_from f ws)
-        made f t ws a b = rw (ne_eqb f.class 0 a, ne_eqb f.class 8 b) refl
 
     read_made : (c : Chunk) → Contains cs c → read_cell heap_to new c ≡ settled_cell h c.start (read_cell (word_in segs 0) old c)
     read_made c m =

@@ -1,5 +1,5 @@
 -- Words of which a run is mapped, each in its place.
-use Rattle.std.proofs.Common.{◌≡◌, ℕ, ◌+◌, ◌<◌, ◌≤◌, List, length, get_or, set, refl, sym, ap, ◌∙◌, inl, inr, arith}
+use Rattle.std.proofs.Common.{◌≡◌, ℕ, ◌+◌, ◌<◌, ◌≤◌, List, length, get_or, set, sym, ap, ◌∙◌, inl, inr, arith}
 use Rattle.std.proofs.lemmas.Bool.{cases_eq}
 use Rattle.std.proofs.lemmas.List.{length-set, get_or-set_other, get_or-set_same}
 
@@ -9,9 +9,6 @@ pub record Mapped (f : ℕ → ℕ → ℕ) (old new : List ℕ) (from at : ℕ)
   pub done : (k : ℕ) → from ≤ k → k < at → get_or new k 0 ≡ f k (get_or old k 0)
   pub before : (k : ℕ) → k < from → get_or new k 0 ≡ get_or old k 0
   pub behind : (k : ℕ) → at ≤ k → get_or new k 0 ≡ get_or old k 0
-
-pub none_mapped : (f : ℕ → ℕ → ℕ) (old : List ℕ) (from : ℕ) → Mapped f old old from from
-none_mapped f old from = record { long = refl; done = λ k a b. absurd (omega arith); before = λ k a. refl; behind = λ k a. refl }
 
 pub next_mapped : (f : ℕ → ℕ → ℕ) (old new : List ℕ) (from at v : ℕ) → Mapped f old new from at → from ≤ at → at < length old → v ≡ f at (get_or new at 0) → Mapped f old (set new at v) from (at + 1)
 next_mapped f old new from at v m l b e =

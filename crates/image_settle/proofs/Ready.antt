@@ -9,16 +9,18 @@ use Rattle.spur_graph.specs.Segments.{Segment, word_in}
 use Rattle.spur_graph.specs.Chunks.{Chunk, chunk_of, chunks, slots_of}
 use Rattle.spur_graph.specs.Cells.{Store, read_cell, cell_from, start_named, is_start, is_moved, first}
 use Rattle.heap_cells.specs.Rows.{starts_of, AreStarts, ReadsStart}
+use Rattle.heap_cells.proofs.CellKinds.{there_starts, there_is_not_moved, moved_starts}
 use Rattle.heap_cells.proofs.Members.{listed, start_of_chunk}
 use Rattle.heap_cells.proofs.Cutting.{shape, cell-at}
 use Rattle.heap_cells.proofs.Starts.{start-read, starts-rise}
-use Rattle.image_settle.specs.Settles.{IsReady, Leads, HasOrdinary, IsNext}
+use Rattle.image_references.specs.References.{Leads, HasOrdinary}
+use Rattle.image_settle.specs.Settles.{IsReady, Follows, IsNext}
 use Rattle.spur_graph.specs.FileStores.{file_store}
-use Rattle.image_settle.proofs.Leading.{moved_start, there_start}
 use Rattle.image_settle.proofs.Walking.{Comes, Walking, comes}
 use Rattle.image_settle.proofs.Steps.{Spans, spans_old}
 
-told : (to : ℕ → Option ℕ) (old : List ℕ) (c : Chunk) → read_cell to old c ≡ cell_from (fields_of (get_or old c.start 0)) (start_named to old (get_or old (c.start + 1) 0)) (slots_of old c)
+-- what a chunk's words tell
+pub told : (to : ℕ → Option ℕ) (old : List ℕ) (c : Chunk) → read_cell to old c ≡ cell_from (fields_of (get_or old c.start 0)) (start_named to old (get_or old (c.start + 1) 0)) (slots_of old c)
 unfolding read_cell
 told to old c = refl
 
@@ -32,22 +34,25 @@ module _ (segs : List Segment) (start_map ordinary_map : StartMap) (firsts old :
   read : (s : ℕ) → is_start (h.cell s) ≡ true → ReadsStart (word_in segs 0) old (length old) cs s
   read s k = start-read (word_in segs 0) old (length old) cs s r.cut k
 
-  pub ready_leads : Leads h segs start_map old
-  ready_leads =
-      let inside : (s : ℕ) → is_start (h.cell s) ≡ true → s + 1 < length old = λ s k. (read s k).below in
-      record {
-        to = λ w. refl;
-        names = refl;
-        below = r.named.below;
-        inside = inside;
-        starts = r.starts;
-        covers = r.covers.0;
-        nil = let k = inside (first h 0) (there_start (h.cell (first h 0)) (r.loadable.objects 0 (omega arith))).0 in omega arith;
-        small = r.small;
-        moved = λ s k. (read s k).moved;
-        target = λ s m. (read s (moved_start (h.cell s) m)).target m;
-        resolved = r.resolved;
-      }
+  ready_leads : Leads h segs start_map old
+  ready_leads = record {
+    to = λ w. refl;
+    names = refl;
+    inside = λ s k. (read s k).below;
+    starts = r.starts;
+    covers = r.covers.0;
+    moved = λ s k. (read s k).moved;
+    target = λ s m. (read s (moved_starts (h.cell s) m)).target m;
+    resolved = r.resolved;
+  }
+
+  pub ready_follows : Follows h segs start_map old
+  ready_follows = record {
+    leads = ready_leads;
+    below = r.named.below;
+    nil = let k = (read (first h 0) (there_starts (h.cell (first h 0)) (r.loadable.objects 0 (omega arith)))).below in omega arith;
+    small = r.small;
+  }
 
   pub ready_ordinary : HasOrdinary h ordinary_map
   ready_ordinary = record { has = r.ordinary; covers = r.covers.1 }
@@ -81,18 +86,18 @@ module _ (segs : List Segment) (start_map ordinary_map : StartMap) (firsts old :
             ]
           ];
           target = λ s e is. elim (cases_lt s c.start) [
-            | inl m ↦ let q = rise.apart s c.start (read s (moved_start (h.cell s) e)).stands stands m in omega (arith, q.next, is, a)
+            | inl m ↦ let q = rise.apart s c.start (read s (moved_starts (h.cell s) e)).stands stands m in omega (arith, q.next, is, a)
             | inr m ↦ elim (cases_lt c.start s) [
-              | inl o ↦ let q = rise.apart c.start s stands (read s (moved_start (h.cell s) e)).stands o in omega (arith, q.slots, sh.slots, is, b)
+              | inl o ↦ let q = rise.apart c.start s stands (read s (moved_starts (h.cell s) e)).stands o in omega (arith, q.slots, sh.slots, is, b)
               | inr o ↦
                   let one : s ≡ c.start = omega arith in
                   let f : is_moved (h.cell c.start) ≡ true = ap (λ n. is_moved (h.cell n)) (sym one) ∙ e in
-                  absurd (false≢true (sym (there_start (h.cell c.start) t).1 ∙ f))
+                  absurd (false≢true (sym (there_is_not_moved (h.cell c.start) t) ∙ f))
             ]
           ];
         };
         apart = λ s e is. elim (cases_lt s c.start) [
-          | inl m ↦ let q = rise.apart s c.start (read s (moved_start (h.cell s) e)).stands stands m in omega (arith, q.next, is)
+          | inl m ↦ let q = rise.apart s c.start (read s (moved_starts (h.cell s) e)).stands stands m in omega (arith, q.next, is)
           | inr m ↦ omega (arith, is)
         ];
       }

@@ -12,11 +12,11 @@ use Rattle.spur_graph.specs.Heaps.{heap_to, heap_store, IsClear}
 use Rattle.heap_cells.specs.Settled.{IsSettled, settled_cell}
 use Rattle.heap_cells.specs.Rows.{starts_of}
 use Rattle.heap_cells.specs.RowWrites.{IsFreeChunk, Appends}
+use Rattle.heap_cells.proofs.CellKinds.{there_starts, moved_is}
 use Rattle.heap_cells.proofs.Members.{in_list}
 use Rattle.heap_cells.proofs.Cutting.{stands}
-use Rattle.heap_cells.proofs.Appending.{appended}
+use Rattle.heap_cells.proofs.Appending.{shifted_start, shifted_size, appended}
 use Rattle.image_settle.specs.Rooms.{IsRoom, IsAlone, HasRoom, room_chunk, room_chunks, free_fields}
-use Rattle.image_settle.proofs.Leading.{moved_is, there_start}
 
 -- ---- head words
 
@@ -78,25 +78,17 @@ long_room words at room v w high is next count slots f =
 
 -- ---- the words behind
 
-moved_start : (n w : ℕ) → (chunk_of n w).start ≡ n + (chunk_of 0 w).start
-unfolding chunk_of
-moved_start n w = elim (cases_Bool (leads w)) [ inl is ↦ rw is (omega arith) | inr not ↦ rw not (omega arith) ]
-
-moved_size : (n w : ℕ) → (chunk_of n w).size ≡ (chunk_of 0 w).size
-unfolding chunk_of
-moved_size n w = refl
-
 -- the room by itself
 free_chunk : (words : List ℕ) (at room : ℕ) → 2 ≤ room → at + room ≡ length words → IsRoom words at room → IsFreeChunk (drop at words)
 free_chunk words at room low end k =
     let at0 : at + 0 ≡ at = omega arith in
     let first : get_or (drop at words) 0 0 ≡ get_or words at 0 = get_or-drop at words 0 0 ∙ ap (λ n. get_or words n 0) at0 in
     let start : at + (chunk_of 0 (get_or (drop at words) 0 0)).start ≡ (room_chunk at room).start =
-    ap (λ w. at + (chunk_of 0 w).start) first ∙ sym (moved_start at (get_or words at 0)) ∙ ap (λ (c : Chunk). c.start) k.chunk in
+    ap (λ w. at + (chunk_of 0 w).start) first ∙ sym (shifted_start at (get_or words at 0)) ∙ ap (λ (c : Chunk). c.start) k.chunk in
     let head : get_or (drop at words) (chunk_of 0 (get_or (drop at words) 0 0)).start 0 ≡ get_or words (room_chunk at room).start 0 =
     get_or-drop at words (chunk_of 0 (get_or (drop at words) 0 0)).start 0 ∙ ap (λ n. get_or words n 0) start in
     record {
-      size = ap (λ w. (chunk_of 0 w).size) first ∙ sym (moved_size at (get_or words at 0)) ∙ ap (λ (c : Chunk). c.size) k.chunk ∙ omega (arith, length-drop at words);
+      size = ap (λ w. (chunk_of 0 w).size) first ∙ sym (shifted_size at (get_or words at 0)) ∙ ap (λ (c : Chunk). c.size) k.chunk ∙ omega (arith, length-drop at words);
       twice = ap leads head ∙ k.twice ∙ ap leads (sym first);
       free = ap class_of head ∙ k.free;
     }
@@ -123,7 +115,7 @@ module _ (h : Store) (words : List ℕ) (k : IsAlone h words) where
   named s m =
       let t = target_of (cell_in heap_to words cs s) in
       let e : h.cell s ≡ Moved t = not_moved h s t (h.cell s) (sym (k.settled.cells s) ∙ moved_is (cell_in heap_to words cs s) m) in
-      let b = below_names t (there_start (h.cell t) (k.resolved s t e)).0 in
+      let b = below_names t (there_starts (h.cell t) (k.resolved s t e)) in
       let n = k.settled.names in
       omega arith
 

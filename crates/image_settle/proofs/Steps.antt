@@ -10,7 +10,7 @@ use Rattle.spur_graph.specs.Chunks.{Chunk, chunk_of}
 use Rattle.spur_graph.specs.Cells.{Store, start_named}
 use Rattle.heap_cells.specs.Settled.{word_of}
 use Rattle.heap_cells.proofs.Cutting.{chunk_of-lies, chunk_of-at}
-use Rattle.image_settle.specs.Settles.{IsCleared, IsTurned, unmarked, slot_in}
+use Rattle.image_settle.specs.Settles.{HasNoUnusedBits, IsCleared, IsTurned, unmarked, slot_in}
 use Rattle.image_settle.proofs.Walking.{Walking, walk_goes, comes}
 
 -- the chunk at `at`, as a span
@@ -23,6 +23,7 @@ pub record Spans (words : List ℕ) (at start slots end : ℕ) : Type 0 where
 pub record Settles (h : Store) (new next : List ℕ) (start slots : ℕ) : Type 0 where
   pub same_len : length next ≡ length new
   pub header : fields_of (get_or next start 0) ≡ unmarked (fields_of (get_or new start 0))
+  pub unused : HasNoUnusedBits (get_or next start 0)
   pub slots_are : (j : ℕ) → start < j → j < start + 1 + slots → get_or next j 0 ≡ slot_in h start (h.cell start) (j - start - 1) (get_or new j 0)
   pub before : (j : ℕ) → j < start → get_or next j 0 ≡ get_or new j 0
   pub behind : (j : ℕ) → start + 1 + slots ≤ j → get_or next j 0 ≡ get_or new j 0
@@ -70,6 +71,7 @@ module _ (old : List ℕ) (cs : List Chunk) (new next : List ℕ) (at start slot
         header = λ e.
             let is : j ≡ start = e ∙ sym s.start_is in
             ap (λ n. fields_of (get_or next n 0)) is ∙ k.header ∙ ap (λ n. unmarked (fields_of (get_or new n 0))) (sym is) ∙ ap (λ v. unmarked (fields_of v)) (w.same j a);
+        unused = λ e. subst (λ n. HasNoUnusedBits (get_or next n 0)) (s.start_is ∙ sym e) k.unused;
         slots = λ m n.
             k.slots_are j (omega (arith, m, s.start_is)) (omega (arith, n, s.start_is, s.slots_is))
             ∙ ap (λ v. slot_in h start (h.cell start) (j - start - 1) v) (w.same j a)

@@ -1,5 +1,6 @@
 -- What settling starts from, and what its two walks make of each word.
 use Rattle.std.specs.Prelude.{ℕ, ◌≡◌, ◌≢◌, ◌+◌, ◌-◌, ◌^◌, ◌<◌, ◌≤◌, List, take, drop, length, slice_index, true, if◌then◌else◌, nat_eq, nat_lt, Some}
+use Rattle.object_header.specs.Field.{field_of}
 use Rattle.object_header.specs.Fields.{Fields, fields_of}
 use Rattle.object_header.specs.Head.{class_of}
 use Rattle.object_header.specs.declared.header.TheConstants.{FORWARDER_CLASS}
@@ -7,8 +8,9 @@ use Rattle.heap_walk.specs.declared.starts.StartMap.{StartMap}
 use Rattle.heap_walk.specs.Starts.{has_start, covered}
 use Rattle.spur_graph.specs.Segments.{Segment, word_in}
 use Rattle.spur_graph.specs.Chunks.{Chunk, Cuts, chunks}
-use Rattle.spur_graph.specs.Cells.{Body, Cell, Empty, Moved, There, Store, store_in, cell_from, start_named, pointer_count, first, is_start, is_moved, is_there, is_formed, target_of}
+use Rattle.spur_graph.specs.Cells.{Body, Cell, Empty, Moved, There, Store, cell_from, start_named, pointer_count, first, is_start, is_moved, is_there, is_formed}
 use Rattle.spur_graph.specs.Ordinary.{body_at, is_ordinary}
+use Rattle.image_references.specs.References.{Leads}
 use Rattle.heap_cells.specs.Settled.{IsLoadable, IsNamed, word_of, settled_word, settled_root}
 use Rattle.spur_graph.specs.FileStores.{file_store}
 
@@ -30,24 +32,12 @@ pub record IsReady (segs : List Segment) (start_map ordinary_map : StartMap) (fi
   pub covers : (covered start_map ≡ length words) × (covered ordinary_map ≡ length words)
   pub small : length words ≤ 2 ^ 27
 
--- some words tell where the words of a store lead, though other words than headers and those of forwarders may be written already
-pub record Leads (h : Store) (segs : List Segment) (start_map : StartMap) (words : List ℕ) : Type 0 where
-  pub to : (w : ℕ) → h.to w ≡ word_in segs 0 w
-  pub names : h.names ≡ length words
+-- the words tell where those of a store lead; each start that a word names is that of one of them, and so is nil
+pub record Follows (h : Store) (segs : List Segment) (start_map : StartMap) (words : List ℕ) : Type 0 where
+  pub leads : Leads h segs start_map words
   pub below : (w s : ℕ) → h.to w ≡ Some s → s < h.names
-  pub inside : (s : ℕ) → is_start (h.cell s) ≡ true → s + 1 < h.names
-  pub starts : (s : ℕ) → has_start start_map s ≡ is_start (h.cell s)
-  pub covers : covered start_map ≡ length words
   pub nil : first h 0 < length words
   pub small : length words ≤ 2 ^ 27
-  pub moved : (s : ℕ) → is_start (h.cell s) ≡ true → is_moved (h.cell s) ≡ nat_eq (class_of (slice_index words s)) FORWARDER_CLASS
-  pub target : (s : ℕ) → is_moved (h.cell s) ≡ true → target_of (h.cell s) ≡ start_named (word_in segs 0) words (slice_index words (s + 1))
-  pub resolved : (s t : ℕ) → h.cell s ≡ Moved t → is_there (h.cell t) ≡ true
-
--- the map has the starts of the ordinary objects
-pub record HasOrdinary (h : Store) (ordinary_map : StartMap) : Type 0 where
-  pub has : (s : ℕ) → has_start ordinary_map s ≡ is_ordinary h s
-  pub covers : covered ordinary_map ≡ h.names
 
 -- the word is no header, and not that of a forwarder
 pub record IsLoose (h : Store) (j : ℕ) : Type 0 where
@@ -68,6 +58,11 @@ pub record IsNext (h : Store) (words : List ℕ) (header start slots : ℕ) : Ty
 abbrev pub unmarked : Fields → Fields
 unmarked f = record f { marked = 0; grey = 0; remembered = 0 }
 
+-- the two bits of a header that are in none of its fields are 0
+pub record HasNoUnusedBits (word : ℕ) : Type 0 where
+  pub low : field_of 22 1 word ≡ 0
+  pub high : field_of 54 1 word ≡ 0
+
 -- slot `i` of the object at a start
 abbrev pub settled_slot : Store → ℕ → Body → ℕ → ℕ → ℕ
 settled_slot h s b i word =
@@ -84,6 +79,7 @@ slot_in h s (There b) i word = settled_slot h s b i word
 -- the first walk makes this of word `j` of a chunk
 pub record IsCleared (h : Store) (old : List ℕ) (c : Chunk) (j new : ℕ) : Type 0 where
   pub header : j ≡ c.start → fields_of new ≡ unmarked (fields_of (slice_index old j))
+  pub unused : j ≡ c.start → HasNoUnusedBits new
   pub slots : c.start < j → j < c.start + 1 + c.slots → new ≡ slot_in h c.start (h.cell c.start) (j - c.start - 1) (slice_index old j)
   pub before : j < c.start → new ≡ slice_index old j
   pub behind : c.start + 1 + c.slots ≤ j → new ≡ slice_index old j

@@ -2,64 +2,22 @@
 ghost use Rattle.std.specs.Prelude.{◌≡◌, ◌≢◌, ◌≤◌, ◌<◌, ◌+◌, ◌-◌, ◌^◌, ◌*◌, ℕ, length, slice_index, Some};
 ghost use Rattle.spur_graph.specs.Segments.{word_in};
 ghost use Rattle.object_header.specs.Fields.{fields_of};
-ghost use Rattle.object_header.specs.Formats.{pointer_slots_of};
-ghost use Rattle.object_header.specs.Head.{format_of, literals_of};
-ghost use Rattle.spur_graph.specs.Chunks.{chunk_of};
 ghost use Rattle.spur_graph.specs.Cells.{Store, first};
 ghost use Rattle.heap_cells.specs.Settled.{settled_word, settled_root};
-ghost use Rattle.image_settle.specs.Settles.{Leads, HasOrdinary, AreFirsts, IsLoose, IsNext, unmarked, slot_in};
+ghost use Rattle.image_references.specs.References.{HasOrdinary};
+ghost use Rattle.image_settle.specs.Settles.{Follows, AreFirsts, IsLoose, IsNext, HasNoUnusedBits, unmarked, slot_in};
 
 use crate::word::{settled_root, settled_word};
+use heap_cells::Span;
 use heap_segments::AddressMap;
 use heap_walk::StartMap;
-use object_header::{
-    FORWARDER_CLASS, FREE_CLASS, Format, Header, LiteralsField, OVERFLOW_COUNT, OverflowSlotsField,
-};
-
-/// The place of the free lists object among the first five chunks.
-const FREE_LISTS: usize = 3;
-
-/// The place of the hidden roots among them.
-const HIDDEN_ROOTS: usize = 4;
-
-/// Where the words of a chunk are: its header, how many slots are behind it, and its end.
-#[derive(Clone, Copy)]
-pub(crate) struct Span {
-    pub start: usize,
-    pub slots: usize,
-    pub end: usize,
-}
-
-/// The chunk whose first word stands at `at`.
-#[tactic(auto, unfolding(spur_graph::specs::Chunks::chunk_of))]
-pub(crate) fn span_at(words: &[u64], at: usize) -> Span
-    requires inside { at < length words.now }
-    requires small { length words.now ≤ 2 ^ 27 }
-    ensures start { result.start ≡ (chunk_of at (slice_index words.now at)).start }
-    ensures slots { result.slots ≡ (chunk_of at (slice_index words.now at)).slots }
-    ensures end { result.end ≡ at + (chunk_of at (slice_index words.now at)).size }
-{
-    let first = words[at];
-    let count = Header(first).count();
-    if count == OVERFLOW_COUNT {
-        let slots = OverflowSlotsField::get(first) as usize;
-        return Span {
-            start: at + 1,
-            slots,
-            end: at + 2 + slots.max(1),
-        };
-    }
-    let slots = count as usize;
-    Span {
-        start: at,
-        slots,
-        end: at + 1 + slots.max(1),
-    }
-}
+use object_header::{FORWARDER_CLASS, FREE_CLASS, Header};
+use spur_graph::{FREE_LISTS, HIDDEN_ROOTS};
 
 /// The header without what collections leave in one: mark, grey and remembered bit, and the two bits of no field.
 pub(crate) fn cleared(header: Header) -> Header
-    ensures { fields_of result.0 ≡ unmarked (fields_of header.0) }
+    ensures fields { fields_of result.0 ≡ unmarked (fields_of header.0) }
+    ensures unused { HasNoUnusedBits result.0 }
 {
     Header(0)
         .set_count(header.count())
@@ -68,18 +26,6 @@ pub(crate) fn cleared(header: Header) -> Header
         .set_format(header.format())
         .set_readonly(header.readonly())
         .set_class(header.class())
-}
-
-/// How many of the slots behind a header are pointers.
-fn pointers(words: &[u64], header: Header, span: Span) -> usize
-    requires { span.start + 1 < length words.now }
-    ensures { result ≡ pointer_slots_of (format_of header.0) span.slots (literals_of (slice_index words.now (span.start + 1))) }
-{
-    let format = Format::new(header.format() as u8);
-    format.pointer_slots(
-        span.slots,
-        LiteralsField::get(words[span.start + 1]) as usize,
-    )
 }
 
 /// Follows the words from `from` up to `to`.
@@ -93,14 +39,14 @@ fn settle_slots(
     to: usize,
 )
     ghost h: { Store }
-    requires leads { Leads h map.now starts.now words.old }
+    requires leads { Follows h map.now starts.now words.old }
     requires ordinary { HasOrdinary h ordinary.now }
     requires nil { nil ≡ first h 0 }
     requires order { from ≤ to }
     requires within { to ≤ length words.old }
     requires loose { (j : ℕ) → from ≤ j → j < to → IsLoose h j }
     ensures same_len { length words.new ≡ length words.old }
-    ensures leads { Leads h map.now starts.now words.new }
+    ensures leads { Follows h map.now starts.now words.new }
     ensures followed { (j : ℕ) → from ≤ j → j < to → slice_index words.new j ≡ settled_word h (slice_index words.old j) }
     ensures before { (j : ℕ) → j < from → slice_index words.new j ≡ slice_index words.old j }
     ensures behind { (j : ℕ) → to ≤ j → slice_index words.new j ≡ slice_index words.old j }
@@ -142,12 +88,12 @@ fn settle_body(
     span: Span,
 )
     ghost h: { Store }
-    requires leads { Leads h map.now starts.now words.old }
+    requires leads { Follows h map.now starts.now words.old }
     requires ordinary { HasOrdinary h ordinary.now }
     requires firsts { AreFirsts h firsts.now }
     requires next { IsNext h words.old header.0 span.start span.slots }
     ensures same_len { length words.new ≡ length words.old }
-    ensures leads { Leads h map.now starts.now words.new }
+    ensures leads { Follows h map.now starts.now words.new }
     ensures slots { (j : ℕ) → span.start < j → j < span.start + 1 + span.slots
         → slice_index words.new j ≡ slot_in h span.start (h.cell span.start) (j - span.start - 1) (slice_index words.old j) }
     ensures before { (j : ℕ) → j ≤ span.start → slice_index words.new j ≡ slice_index words.old j }
@@ -162,7 +108,7 @@ fn settle_body(
     if span.start == firsts[HIDDEN_ROOTS] {
         settle_roots(words, map, nil, from, from + span.slots);
     } else if span.start != firsts[FREE_LISTS] {
-        let to = from + pointers(words, header, span);
+        let to = from + header.pointer_slots(span.slots, words[from]);
         settle_slots(words, map, starts, ordinary, nil, from, to);
     }
 }
@@ -177,13 +123,14 @@ pub(crate) fn settle_chunk(
     span: Span,
 )
     ghost h: { Store }
-    requires leads { Leads h map.now starts.now words.old }
+    requires leads { Follows h map.now starts.now words.old }
     requires ordinary { HasOrdinary h ordinary.now }
     requires firsts { AreFirsts h firsts.now }
     requires next { IsNext h words.old (slice_index words.old span.start) span.start span.slots }
     ensures same_len { length words.new ≡ length words.old }
-    ensures leads { Leads h map.now starts.now words.new }
+    ensures leads { Follows h map.now starts.now words.new }
     ensures header { fields_of (slice_index words.new span.start) ≡ unmarked (fields_of (slice_index words.old span.start)) }
+    ensures unused { HasNoUnusedBits (slice_index words.new span.start) }
     ensures slots { (j : ℕ) → span.start < j → j < span.start + 1 + span.slots
         → slice_index words.new j ≡ slot_in h span.start (h.cell span.start) (j - span.start - 1) (slice_index words.old j) }
     ensures before { (j : ℕ) → j < span.start → slice_index words.new j ≡ slice_index words.old j }

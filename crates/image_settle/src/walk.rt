@@ -8,11 +8,12 @@ ghost use Rattle.spur_graph.specs.Chunks.{Chunk, Cuts, chunks};
 ghost use Rattle.spur_graph.specs.Cells.{Store, start_named};
 ghost use Rattle.spur_graph.specs.Heaps.{heap_store, IsClear};
 ghost use Rattle.heap_cells.specs.Settled.{IsSettled, word_of};
-ghost use Rattle.image_settle.specs.Settles.{IsReady, IsCleared, IsTurned};
+ghost use Rattle.image_settle.specs.Settles.{IsReady, IsCleared, IsTurned, HasNoUnusedBits};
 ghost use Rattle.spur_graph.specs.FileStores.{file_store};
 
-use crate::object::{settle_chunk, span_at};
+use crate::object::settle_chunk;
 use crate::word::word_of;
+use heap_cells::span_of;
 use heap_segments::AddressMap;
 use heap_walk::StartMap;
 use object_header::{FORWARDER_CLASS, Header};
@@ -34,7 +35,7 @@ fn settle_chunks(
 {
     let mut at = 0;
     'chunks: while at < words.len() {
-        let span = span_at(words, at);
+        let span = span_of(at, words[at]);
         settle_chunk(words, map, starts, ordinary, firsts, span);
         at = span.end;
     }
@@ -66,7 +67,7 @@ fn turn_forwarders(words: &mut [u64], map: &AddressMap)
 {
     let mut at = 0;
     'chunks: while at < words.len() {
-        let span = span_at(words, at);
+        let span = span_of(at, words[at]);
         turn_forwarder(words, map, span.start);
         at = span.end;
     }
@@ -75,8 +76,8 @@ fn turn_forwarders(words: &mut [u64], map: &AddressMap)
 /// Turns the words of an image that has passed all checks into those of a heap. `starts` has the starts of its objects and forwarders, `ordinary`
 /// those of its ordinary objects, and `firsts` those of the first five chunks.
 ///
-/// Headers lose what collections leave in them. Pointer slots are followed, and have `nil` where they have no value; those of the hidden roots name
-/// pages, or `nil` behind them. Forwarders go on naming the same object. All other words stay.
+/// Headers lose what collections leave in them, and the two bits of no field. Pointer slots are followed, and have `nil` where they have no value;
+/// those of the hidden roots name pages, or `nil` behind them. Forwarders go on naming the same object. All other words stay.
 pub fn settle(
     words: &mut [u64],
     map: &AddressMap,
@@ -90,6 +91,7 @@ pub fn settle(
     ensures cut { Cuts words.new 0 (length words.new) (chunks words.new) }
     ensures chunks { chunks words.new ≡ chunks words.old }
     ensures clear { All (λ (c : Chunk). IsClear (slice_index words.new c.start)) (chunks words.new) }
+    ensures unused { All (λ (c : Chunk). HasNoUnusedBits (slice_index words.new c.start)) (chunks words.new) }
 {
     settle_chunks(words, map, starts, ordinary, firsts);
     turn_forwarders(words, map);

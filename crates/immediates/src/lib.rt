@@ -16,4 +16,4 @@ mod word_kind;
 mod words;
 
 pub use word_kind::{Kind, Range};
-pub use words::{char_of, character, float_bits, int_of, kind, small_int};
+pub use words::{char_of, character, float_bits, int_of, is_immediate_word, kind, small_int};

@@ -1,4 +1,6 @@
-use crate::{Kind, Range, char_of, character, float_bits, int_of, kind, small_int};
+use crate::{
+    Kind, Range, char_of, character, float_bits, int_of, is_immediate_word, kind, small_int,
+};
 
 #[test]
 fn words_have_kinds(rt: HostRuntime) {
@@ -17,6 +19,11 @@ fn words_have_kinds(rt: HostRuntime) {
     ];
     for (word, expected) in words {
         assert_eq!(rt; kind(word), expected, "word {word}");
+        assert_eq!(rt;
+            is_immediate_word(word),
+            matches!(expected, Kind::Int | Kind::Char | Kind::Float),
+            "word {word}"
+        );
     }
 }
 

@@ -2,7 +2,7 @@
 ghost use Rattle.std.specs.Prelude.{◌≡◌, ◌%◌, ◌/◌, ◌^◌, ◌<◌, ◌↔◌, ℕ, Some, IsOk, IfOk};
 ghost use Rattle.spur_graph.specs.declared.answer.Value.{Value};
 ghost use Rattle.spur_graph.specs.declared.answer.Value.TheVariants as value;
-ghost use Rattle.spur_graph.specs.Value.{IsValue, int_of, value_of};
+ghost use Rattle.spur_graph.specs.Value.{IsValue, int_of, value_of, is_immediate_word};
 ghost use Rattle.immediates.specs.Kinds.{kind_of, value_by};
 
 use crate::{Kind, Range};
@@ -35,6 +35,17 @@ pub fn kind(word: u64) -> Kind
         CHARACTER_TAG if word / TAGS < CODES => Kind::Char,
         SMALL_FLOAT_TAG => Kind::Float,
         _ => Kind::Bad,
+    }
+}
+
+/// Whether a word is that of an immediate: a SmallInteger, a Character whose code is below 2^30, or a SmallFloat.
+pub fn is_immediate_word(word: u64) -> bool
+    ensures { result ≡ is_immediate_word word }
+{
+    match word % TAGS {
+        SMALL_INTEGER_TAG | SMALL_FLOAT_TAG => true,
+        CHARACTER_TAG => word / TAGS < CODES,
+        _ => false,
     }
 }
 

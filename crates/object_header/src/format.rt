@@ -3,6 +3,9 @@ ghost use Rattle.object_header.specs.Formats.{is_method, unit_bytes_of, unused_o
 
 use std::marker::Model;
 
+/// The format of an object whose slots are all indexable pointers, as those of an array.
+pub const ARRAY_FORMAT: u64 = 2;
+
 /// The format of an object, 0 to 31: which of its slots are pointers, and the size of the units in
 /// the others. From 10 up it also counts the units of the last word that are not used, since the
 /// slot count is in whole words.

@@ -1,5 +1,6 @@
 ghost use Rattle.std.specs.Prelude.{◌≡◌, ◌^◌, ◌+◌, ◌<◌, ◌≤◌, length, slice_index, max, IfOk};
-ghost use Rattle.object_header.specs.Head.{head_of, body_of, formed, lead_of, is_refused_format};
+ghost use Rattle.object_header.specs.Formats.{pointer_slots_of};
+ghost use Rattle.object_header.specs.Head.{head_of, body_of, format_of, formed, lead_of, literals_of, is_refused_format};
 
 use crate::field::Field;
 use crate::format::Format;
@@ -15,6 +16,17 @@ type TagField = Field<0, 3>;
 pub type LiteralsField = Field<3, 15>;
 
 const SMALL_INTEGER_TAG: u64 = 1;
+
+impl Header {
+    /// How many of the slots behind the header are pointers; they come first. `first` is the word behind the header, which in a
+    /// method tells its literals.
+    pub fn pointer_slots(self, slots: usize, first: u64) -> usize
+        ensures { result ≡ pointer_slots_of (format_of self.0) slots (literals_of first) }
+    {
+        let literals = LiteralsField::get(first) as usize;
+        Format::new(self.format() as u8).pointer_slots(slots, literals)
+    }
+}
 
 /// What the first words of a chunk say of it.
 #[derive(Clone, Copy, Debug, PartialEq, Eq)]
@@ -150,7 +162,7 @@ fn read_formed(
     if format.is_method() && !has_literals {
         return Err(HeadError::BadCount);
     }
-    let pointers = format.pointer_slots(slots, literals);
+    let pointers = header.pointer_slots(slots, first);
     let whole = match format.unit_bytes() {
         0 => 0,
         bytes => (slots - pointers) * 8 / bytes,

@@ -29,6 +29,6 @@ pub use field::{
     ClassField, CountField, Field, FormatField, GreyField, HashField, MarkedField, PinnedField,
     ReadOnlyField, RememberedField,
 };
-pub use format::Format;
+pub use format::{ARRAY_FORMAT, Format};
 pub use head::{Head, HeadError, LiteralsField, OverflowSlotsField, read_head};
 pub use header::{BRIDGE_CLASS, FORWARDER_CLASS, FREE_CLASS, Header, OVERFLOW_COUNT};

@@ -25,8 +25,10 @@ use Rattle.heap_cells.proofs.Starts.{starts-rise}
 use Rattle.spur_heap.specs.Views.{IsOrdinary, store, node_in}
 use Rattle.replay.specs.Sessions.{graph_of, room_of, value_in}
 use Rattle.replay.specs.Commands.{Becomes, node_of}
-use Rattle.replay.proofs.Held.{get-handle_values, len-handle_values, handle_values-insert, handle_values-remove, remove-none}
-use Rattle.replay.proofs.Tables.{find-listed, find-absent, in_filter, filter_in}
+use Rattle.heap_cells.proofs.HandleValues.{get-handle_values}
+use Rattle.replay.proofs.Held.{len-handle_values, handle_values-insert, handle_values-remove, remove-none}
+use Rattle.heap_cells.proofs.Members.{in_filter, filter_in}
+use Rattle.replay.proofs.Tables.{find-listed, find-absent}
 
 -- handles
 pub held_value : (v : View) (k : ℕ) (h : List ℕ) (word : ℕ) → get v.handles (k, h) ≡ Some word → held (graph_of v) k h ≡ Some (value_in v word)

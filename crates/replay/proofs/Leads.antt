@@ -14,10 +14,11 @@ use Rattle.spur_graph.specs.CellGraph.{read, has_class, classes_of}
 use Rattle.spur_graph.specs.Heaps.{View, own_name, IsWhole}
 use Rattle.heap_cells.specs.Settled.{settled_word, word_of}
 use Rattle.heap_cells.proofs.Below.{passed, mapped_there, at-named}
+use Rattle.heap_cells.proofs.References.{not_immediate}
 use Rattle.heap_cells.proofs.Values.{read-reference, reference-good}
 use Rattle.spur_heap.specs.Words.{AreSound}
 use Rattle.spur_heap.specs.Views.{IsGood, store, follows, class_word}
-use Rattle.spur_heap.proofs.Following.{not_immediate, own_value, stays, leads}
+use Rattle.spur_heap.proofs.Following.{own_value, stays, leads}
 use Rattle.spur_heap.proofs.Pages.{word_named, outer_ordinary, no_page, an_entry}
 use Rattle.replay.specs.Sessions.{graph_of, value_in}
 use Rattle.replay.specs.Commands.{IsReference, Names}

@@ -24,7 +24,7 @@ pub(crate) fn held(heap: &Heap, mutator: u8, name: &HandleName) -> Result<u64, R
 pub(crate) fn room_for(heap: &Heap, mutator: u8, name: &HandleName) -> Result<(), Refusal>
     ensures { handles (graph_of heap.now) mutator name.now.bytes ≡ result_err result }
 {
-    if heap.handle(mutator, name).is_none() && heap.handle_count() >= MOST_HANDLES {
+    if heap.handle_count() >= MOST_HANDLES && heap.handle(mutator, name).is_none() {
         return Err(Refusal::Handles);
     }
     Ok(())

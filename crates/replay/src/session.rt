@@ -103,10 +103,10 @@ impl Session {
         ensures cause { LoadCause (F.read_count files.old) (F.read_count files.new) result }
         ensures other { F.write_count files.new ≡ F.write_count files.old }
     {
+        let heap = load(alloc, files, image, limits)?;
         let Ok(script) = String::from_str(alloc, script) else {
             return Err(LoadError::Memory);
         };
-        let heap = load(alloc, files, image, limits)?;
         Ok(Session {
             heap,
             script,

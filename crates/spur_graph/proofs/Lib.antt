@@ -2,3 +2,4 @@ pub mod Holding
 pub mod Renaming
 pub mod BaseImages
 pub mod Scripts
+pub mod HandleMaps

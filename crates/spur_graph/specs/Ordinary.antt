@@ -2,19 +2,20 @@
 use Rattle.std.specs.Prelude.{ℕ, ◌/◌, ◌%◌, ◌^◌, List, length, slice_index, Bool, false, not, ◌&&◌, ◌||◌, nat_eq, nat_lt, Option, Some, None}
 use Rattle.std.specs.Option.{unwrap_or}
 use Rattle.std.specs.List.{filter}
+use Rattle.spur_graph.specs.declared.layout.TheConstants.{HIDDEN_ROOTS_SLOTS, PAGE_PLACES, PAGE_ENTRIES}
 use Rattle.spur_graph.specs.Value.{is_immediate_word}
 use Rattle.spur_graph.specs.Cells.{Body, Store, is_moved, is_there, body_of, pointer_count, first, final, lead, any_below}
 
 -- the slots of the hidden roots, and how many of the first of them are places of class table pages
 abbrev pub roots_slots : ℕ
-roots_slots = 4104
+roots_slots = HIDDEN_ROOTS_SLOTS
 
 abbrev pub page_places : ℕ
-page_places = 4096
+page_places = PAGE_PLACES
 
 -- the entries of a class table page
 abbrev pub page_entries : ℕ
-page_entries = 1024
+page_entries = PAGE_ENTRIES
 
 -- class indices are below this
 abbrev pub class_limit : ℕ

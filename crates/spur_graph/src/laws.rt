@@ -1,5 +1,6 @@
 // Laws of the definitions.
-ghost use Rattle.std.specs.Prelude.{◌≡◌, ℕ, List, Some};
+ghost use Rattle.std.specs.Prelude.{◌≡◌, ◌<◌, ◌^◌, ℕ, List, Some};
+ghost use Rattle.std.specs.List.{All};
 ghost use Rattle.spur_graph.specs.declared.answer.Value.{Value};
 ghost use Rattle.spur_graph.specs.Graph.{Graph, held, bind};
 ghost use Rattle.spur_graph.specs.Names.{Iso};
@@ -12,4 +13,9 @@ pub fn handle_bound()
 /// A graph differs from itself in no name.
 pub fn keeps_names()
     ensures { (g : Graph) → Iso g g (λ a. a) (λ a. a) }
+{}
+
+/// A word has 64 bits.
+pub fn words_fit(words: &[u64])
+    ensures { All (λ w. w < 2 ^ 64) words.now }
 {}

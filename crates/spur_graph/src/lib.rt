@@ -9,9 +9,11 @@
 mod answer;
 mod command;
 mod laws;
+mod layout;
 mod limits;
 
 pub use answer::{Answer, Full, Refusal, SegmentCause, Shown, Stat, Value};
 pub use command::{Command, FileName, HandleName, Line};
-pub use laws::{handle_bound, keeps_names};
+pub use laws::{handle_bound, keeps_names, words_fit};
+pub use layout::{FREE_LISTS, HIDDEN_ROOTS, HIDDEN_ROOTS_SLOTS, PAGE_ENTRIES, PAGE_PLACES};
 pub use limits::Limits;

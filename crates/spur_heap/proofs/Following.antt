@@ -1,6 +1,6 @@
 -- A word and the word to which its forwarders lead.
-use Rattle.std.proofs.Common.{◌≡◌, ◌≢◌, ℕ, true, false, cond, ◌/◌, ◌%◌, List, refl, sym, ap, ◌∙◌, arith, inl, inr, Some}
-use Rattle.std.proofs.lemmas.Bool.{cases_Bool, or_cases, or_right}
+use Rattle.std.proofs.Common.{◌≡◌, ◌≢◌, ℕ, true, cond, ◌/◌, ◌%◌, List, refl, sym, ap, ◌∙◌, arith, inl, inr, Some}
+use Rattle.std.proofs.lemmas.Bool.{or_cases, or_right}
 use Rattle.std.specs.Option.{unwrap_or, option_map}
 use Rattle.spur_graph.specs.declared.answer.Value.TheVariants.{Ref}
 use Rattle.spur_graph.specs.Value.{is_immediate_word}
@@ -9,19 +9,17 @@ use Rattle.spur_graph.specs.Ordinary.{is_ordinary, is_good_reference, passes}
 use Rattle.spur_graph.specs.Heaps.{heap_store, heap_value, own_name}
 use Rattle.heap_cells.specs.Settled.{settled_word, word_of}
 use Rattle.heap_cells.proofs.Both.{immediate_stays}
+use Rattle.heap_cells.proofs.Chains.{final-there}
 use Rattle.heap_cells.proofs.Internals.{heap-named}
-use Rattle.heap_cells.proofs.References.{ordinary_there, immediate_tag}
+use Rattle.heap_cells.proofs.References.{ordinary_there, immediate_tag, not_immediate}
 use Rattle.heap_cells.proofs.Values.{read-reference, reference-good}
 use Rattle.spur_heap.specs.Words.{AreSound, is_good}
-use Rattle.spur_heap.proofs.Hops.{there_stays, final-end, reference_named}
-
-pub not_immediate : (w : ℕ) → w % 8 ≡ 0 → is_immediate_word w ≡ false
-not_immediate w z = elim (cases_Bool (is_immediate_word w)) [ inl on ↦ absurd (immediate_tag w on z) | inr off ↦ off ]
+use Rattle.spur_heap.proofs.Hops.{reference_named}
 
 -- the word of an ordinary object's start
 module _ (words : List ℕ) (s : ℕ) (ordinary : is_ordinary (heap_store words) s ≡ true) where
   pub own_lead : lead (heap_store words) (word_of s) ≡ Some s
-  own_lead = ap (option_map (final (heap_store words))) (heap-named s) ∙ ap (λ t. Some t) (final-end (heap_store words) s (there_stays ((heap_store words).cell s) (ordinary_there (heap_store words) s ordinary)))
+  own_lead = ap (option_map (final (heap_store words))) (heap-named s) ∙ ap (λ t. Some t) (final-there (heap_store words) s (ordinary_there (heap_store words) s ordinary))
 
   pub own_good : is_good_reference (heap_store words) (word_of s) ≡ true
   own_good = ap (passes (is_ordinary (heap_store words))) own_lead ∙ ordinary

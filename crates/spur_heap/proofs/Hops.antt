@@ -1,15 +1,16 @@
 -- Chains of forwarders in the words of a heap: where they lead, and how many steps are left.
-use Rattle.std.proofs.Common.{◌≡◌, ◌≢◌, ℕ, suc, zero, Bool, true, false, cond, not, ◌&&◌, ◌+◌, ◌-◌, ◌/◌, ◌%◌, ◌<◌, ◌≤◌, List, length, get_or, refl, sym, ap, ◌∙◌, arith, inl, inr, Some, None}
-use Rattle.std.proofs.lemmas.Bool.{false≢true, cases_Bool, cases_eq, eq-eqb, ne_eqb, not-false}
+use Rattle.std.proofs.Common.{◌≡◌, ◌≢◌, ℕ, suc, zero, Bool, true, false, cond, ◌+◌, ◌-◌, ◌/◌, ◌%◌, ◌<◌, ◌≤◌, List, length, get_or, refl, sym, ap, ◌∙◌, arith, inl, inr, Some, None}
+use Rattle.std.proofs.lemmas.Bool.{false≢true, cases_Bool, cases_eq, eq-eqb, ne_eqb}
 use Rattle.std.specs.Option.{unwrap_or, option_map}
 use Rattle.object_header.specs.Head.{class_of}
 use Rattle.spur_graph.specs.Chunks.{chunks}
 use Rattle.spur_graph.specs.Chains.{follow, steps}
-use Rattle.spur_graph.specs.Cells.{Cell, Empty, Moved, There, Store, is_start, is_moved, is_there, target_of, final, lead}
+use Rattle.spur_graph.specs.Cells.{is_moved, is_there, target_of, final, lead}
 use Rattle.spur_graph.specs.Ordinary.{is_ordinary, is_good_reference, passes}
 use Rattle.spur_graph.specs.Heaps.{heap_store, heap_to}
 use Rattle.heap_cells.specs.Rows.{ReadsStart}
-use Rattle.heap_cells.proofs.Chains.{follow-end, follow-step, follow-none, follow-more}
+use Rattle.heap_cells.proofs.CellKinds.{there_starts, there_is_not_moved, moved_starts, moved_is, unmoved_is_there}
+use Rattle.heap_cells.proofs.Chains.{follow-step, follow-none, follow-more, good_forwarder_ends, final-end}
 use Rattle.heap_cells.proofs.References.{ordinary_there}
 use Rattle.heap_cells.proofs.Starts.{start-read}
 use Rattle.spur_heap.specs.Words.{AreSound, starts_at}
@@ -35,38 +36,7 @@ module _ (moved : ℕ → Bool) (target : ℕ → ℕ) where
     | inr off ↦ steps-end (suc n) s off ∙ sym (steps-end (suc m) s off)
   ]
 
--- ---- cells
-
-moved_starts : (c : Cell) → is_moved c ≡ true → is_start c ≡ true
-moved_starts Empty e = absurd (false≢true e)
-moved_starts (Moved t) e = refl
-moved_starts (There b) e = absurd (false≢true e)
-
-pub there_starts : (c : Cell) → is_there c ≡ true → is_start c ≡ true
-there_starts Empty e = absurd (false≢true e)
-there_starts (Moved t) e = absurd (false≢true e)
-there_starts (There b) e = refl
-
-pub there_stays : (c : Cell) → is_there c ≡ true → is_moved c ≡ false
-there_stays Empty e = refl
-there_stays (Moved t) e = absurd (false≢true e)
-there_stays (There b) e = refl
-
-start_stays : (c : Cell) → is_start c ≡ true → is_moved c ≡ false → is_there c ≡ true
-start_stays Empty e off = absurd (false≢true e)
-start_stays (Moved t) e off = absurd (false≢true (sym off))
-start_stays (There b) e off = refl
-
-moved_to : (c : Cell) → is_moved c ≡ true → c ≡ Moved (target_of c)
-moved_to Empty e = absurd (false≢true e)
-moved_to (Moved t) e = refl
-moved_to (There b) e = absurd (false≢true e)
-
 -- ---- the chains of a heap
-
-pub final-end : (h : Store) (s : ℕ) → is_moved (h.cell s) ≡ false → final h s ≡ s
-unfolding final
-final-end h s e = follow-end (λ t. is_moved (h.cell t)) (λ t. target_of (h.cell t)) h.names s e
 
 -- the steps that are left of the chain from a start on
 pub hops : List ℕ → ℕ → ℕ
@@ -86,12 +56,12 @@ module _ (words : List ℕ) (k : AreSound words) where
   -- the chain of a start ends in an object
   pub end_there : (s : ℕ) → starts_at words s ≡ true → is_there ((heap_store words).cell (final (heap_store words) s)) ≡ true
   end_there s e = elim (cases_Bool (is_moved ((heap_store words).cell s))) [
-    | inl on ↦ not-false _ (sym (ap (λ b. b && not (is_there ((heap_store words).cell (final (heap_store words) s)))) on) ∙ k.sound.ends s)
-    | inr off ↦ ap (λ t. is_there ((heap_store words).cell t)) (final-end (heap_store words) s off) ∙ start_stays ((heap_store words).cell s) e off
+    | inl on ↦ good_forwarder_ends (heap_store words) s (k.sound.ends s) on
+    | inr off ↦ ap (λ t. is_there ((heap_store words).cell t)) (final-end (heap_store words) s off) ∙ unmoved_is_there ((heap_store words).cell s) off ∙ e
   ]
 
   target_there : (s : ℕ) → is_moved ((heap_store words).cell s) ≡ true → starts_at words (target_of ((heap_store words).cell s)) ≡ true
-  target_there s on = k.sound.targets s (target_of ((heap_store words).cell s)) (moved_to ((heap_store words).cell s) on)
+  target_there s on = k.sound.targets s (target_of ((heap_store words).cell s)) (moved_is ((heap_store words).cell s) on)
 
   -- the word of a forwarder names a start
   named : (s : ℕ) → is_moved ((heap_store words).cell s) ≡ true → (get_or words (s + 1) 0 % 8 ≡ 0) × (target_of ((heap_store words).cell s) ≡ get_or words (s + 1) 0 / 8)
@@ -119,7 +89,7 @@ module _ (words : List ℕ) (k : AreSound words) where
       let t : ℕ = target s in
       let is = named s on in
       let step : follow moved target (length words) s ≡ follow moved target n t = ap (λ m. follow moved target m s) one ∙ follow-step moved target n s on in
-      let stop : moved (follow moved target n t) ≡ false = sym (ap moved step) ∙ there_stays ((heap_store words).cell (follow moved target (length words) s)) (end_there s start) in
+      let stop : moved (follow moved target n t) ≡ false = sym (ap moved step) ∙ there_is_not_moved ((heap_store words).cell (follow moved target (length words) s)) (end_there s start) in
       let same : follow moved target (length words) t ≡ follow moved target n t = follow-more moved target n (length words) t (omega arith) stop in
       let more : steps moved target (length words) t ≡ steps moved target n t = steps-more moved target n (length words) t (omega arith) stop in
       let count : steps moved target (length words) s ≡ suc (steps moved target n t) = ap (λ m. steps moved target m s) one ∙ steps-step moved target n s on in

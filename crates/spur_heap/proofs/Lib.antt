@@ -1,7 +1,6 @@
 pub mod Hops
 pub mod Following
 pub mod Walking
-pub mod ObjectWords
 pub mod Pages
 pub mod Bindings
 pub mod Changing

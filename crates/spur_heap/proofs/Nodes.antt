@@ -1,20 +1,18 @@
 -- The node of an object, and of the same with another pointer or another unit.
-use Rattle.std.proofs.Common.{◌≡◌, ℕ, true, ◌==◌, ◌+◌, ◌*◌, ◌/◌, ◌%◌, ◌^◌, ◌<◌, ◌≤◌, zero, suc, List, [], ◌∷◌, map, take, drop, length, get_or, set, refl, ap, ◌∙◌, arith}
-use Rattle.std.proofs.lemmas.Bool.{lt-ltb}
-use Rattle.std.proofs.lemmas.Bool.Decides.{nat_tests}
+use Rattle.std.proofs.Common.{◌≡◌, ℕ, true, ◌==◌, ◌+◌, ◌*◌, ◌/◌, ◌%◌, ◌^◌, ◌<◌, zero, suc, List, [], ◌∷◌, map, take, drop, length, get_or, set, refl, ap, ◌∙◌, arith}
 use Rattle.std.proofs.lemmas.List.{length-map, length-take-le, get_or-take, map-set, take-set-le, drop-set-lt}
 use Rattle.std.specs.List.{range_with_len}
 use Rattle.object_header.specs.Field.{with_field}
-use Rattle.object_header.specs.Formats.{is_method, unit_bytes_of, pointer_slots_of}
-use Rattle.object_header.specs.Head.{literals_of}
+use Rattle.object_header.specs.Formats.{unit_bytes_of}
 use Rattle.spur_graph.specs.declared.answer.Value.{Value}
 use Rattle.spur_graph.specs.Node.{Node}
 use Rattle.spur_graph.specs.Cells.{Body, Store, pointer_count, pointers, unit_count, unit_at, units, is_formed}
 use Rattle.spur_graph.specs.CellGraph.{read, node_of}
 use Rattle.spur_graph.specs.Heaps.{own_name}
 use Rattle.heap_cells.proofs.Bodies.{IsLike, with_words, pointer_count-same, unit_count-same, units-same, pointers_fit}
+use Rattle.heap_cells.proofs.Noding.{units-long}
 use Rattle.heap_cells.proofs.ObjectWrites.{take-set_in}
-use Rattle.spur_heap.proofs.UnitRows.{units_count, units_written}
+use Rattle.spur_heap.proofs.UnitRows.{units_written}
 
 map_read : {X : Type 0} (f : ℕ → X) (ws : List ℕ) (i : ℕ) (d : X) → i < length ws → get_or (map f ws) i d ≡ f (get_or ws i 0)
 map_read f [] i d l = absurd (omega arith)
@@ -43,7 +41,7 @@ module _ (h : Store) (b : Body) where
   units_are = refl
 
   pub node_units : length (node_of own_name h b).units ≡ unit_count b
-  node_units = ap length units_are ∙ units_count b
+  node_units = ap length units_are ∙ units-long b
 
   pub node_unit : (i : ℕ) → get_or (node_of own_name h b).units i 0 ≡ get_or (units b) i 0
   node_unit i = ap (λ us. get_or us i 0) units_are
@@ -87,11 +85,3 @@ module _ (h : Store) (b : Body) where
         (λ y. map (unit_at (unit_bytes_of b.format) (drop (pointer_count-same b ws like y) (is y))) (range_with_len 0 (unit_count-same b ws like y)))
         ∙ units_written b formed i low v range in
         λ y. record { class = b.class; hash = b.hash; format = b.format; pointers = map (read own_name h) (front y); units = rest y; pinned = b.pinned == 1; readonly = b.readonly == 1 }
-
--- a method has a pointer slot at least
-pub method_some : (b : Body) → 24 ≤ b.format → 0 < pointer_count b
-unfolding pointer_count
-method_some b l = some b.format (length b.words) (literals_of (get_or b.words 0 0)) (lt-ltb 23 b.format (omega arith))
-  where
-    some : (f n m : ℕ) → is_method f ≡ true → 0 < pointer_slots_of f n m
-    some f n m method = grind (arith, nat_tests, method)

@@ -10,9 +10,9 @@ use Rattle.heap_cells.specs.Settled.{word_of}
 use Rattle.heap_cells.proofs.Below.{passed, at-named}
 use Rattle.heap_cells.proofs.Internals.{a_page, heap-named}
 use Rattle.heap_cells.proofs.Entries.{place_below, entered_ordinary}
+use Rattle.heap_cells.proofs.ObjectReads.{object-word, object-inside}
 use Rattle.spur_heap.specs.Words.{AreSound, is_good}
 use Rattle.spur_heap.proofs.Following.{own_good}
-use Rattle.spur_heap.proofs.ObjectWords.{object_word, object_inside}
 
 -- a word that names a start
 pub word_named : (w s : ℕ) → heap_to w ≡ Some s → (w ≡ 8 * s) × (w / 8 ≡ s)
@@ -42,7 +42,7 @@ module _ (words : List ℕ) (k : AreSound words) where
   root_place i l =
       let there = k.sound.roots.objects 4 (omega arith) in
       let long : i < length (body_at (heap_store words) (first (heap_store words) 4)).words = omega (arith, l, k.sound.roots.roots.1) in
-      (object_inside words k (first (heap_store words) 4) there i long, object_word words k (first (heap_store words) 4) there i long)
+      (object-inside _ words _ k.cut (first (heap_store words) 4) there i long, object-word _ words _ k.cut (first (heap_store words) 4) there i long)
 
   pub no_page : (index : ℕ) → root_slot (heap_store words) (index / page_entries) ≡ word_of (first (heap_store words) 0) → has_page (heap_store words) index ≡ false
   no_page index e =
@@ -80,7 +80,7 @@ module _ (words : List ℕ) (k : AreSound words) where
       let has : has_page h index ≡ true = λ x. lt-ltb index class_limit l x && not (no_nil x) in
       record {
         page = has;
-        word = ap (λ o. get_or (body_at h (unwrap_or o h.names)).words (index % page_entries) 0) p.1.named ∙ object_word words k s p.1.there (index % page_entries) low ∙ ap (λ t. get_or words (t + 1 + index % page_entries) 0) (sym is);
-        inside = let far = object_inside words k s p.1.there (index % page_entries) low in omega (arith, far, is);
+        word = ap (λ o. get_or (body_at h (unwrap_or o h.names)).words (index % page_entries) 0) p.1.named ∙ object-word _ words _ k.cut s p.1.there (index % page_entries) low ∙ ap (λ t. get_or words (t + 1 + index % page_entries) 0) (sym is);
+        inside = let far = object-inside _ words _ k.cut s p.1.there (index % page_entries) low in omega (arith, far, is);
         good = or_right (is_immediate_word (entry h index)) (is_good_reference h (entry h index)) (entry_good index has);
       }

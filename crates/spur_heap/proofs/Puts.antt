@@ -11,16 +11,17 @@ use Rattle.spur_graph.specs.Cells.{body_from, pointer_count, unit_count}
 use Rattle.spur_graph.specs.CellGraph.{node_of}
 use Rattle.spur_graph.specs.Heaps.{View, IsWhole, heap_store, heap_value, heap_graph, heap_room, own_name}
 use Rattle.heap_cells.specs.Rows.{slots_from}
+use Rattle.heap_cells.proofs.Bodies.{method_some}
 use Rattle.heap_cells.proofs.References.{ordinary_there}
+use Rattle.heap_cells.proofs.ObjectReads.{object-body, object-word, object-inside}
 use Rattle.spur_heap.specs.declared.heap.HeapParts.{HeapParts}
 use Rattle.spur_heap.specs.Parts.{view_of, ArePartsOfHeap}
 use Rattle.spur_heap.specs.Sizes.{IsSize}
 use Rattle.spur_heap.specs.Words.{AreSound, is_object, is_good, body_in, unit_bytes_in, unit_place, unit_word}
 use Rattle.spur_heap.specs.Views.{IsOrdinary, IsGood, node_in}
-use Rattle.spur_heap.proofs.ObjectWords.{object_body, object_word, object_inside}
 use Rattle.spur_heap.proofs.UnitRows.{UnitAt}
-use Rattle.spur_heap.proofs.SlotCounts.{below, formed, pointers_within, unit_at_place}
-use Rattle.spur_heap.proofs.Nodes.{HasFields, node_fields, node_units, node_unit, node_pointers, node_pointer, node_with_pointer, node_with_unit, method_some}
+use Rattle.spur_heap.proofs.SlotCounts.{at_start, formed, pointers_within, unit_at_place}
+use Rattle.spur_heap.proofs.Nodes.{HasFields, node_fields, node_units, node_unit, node_pointers, node_pointer, node_with_pointer, node_with_unit}
 use Rattle.spur_heap.proofs.Written.{Write, body_then, starts_kept, reference_kept, good_kept, sound_kept, clear_kept, graph_written, room_kept, same_length, slot_good, like}
 
 pub whole_sound : (v : View) → IsWhole v → AreSound v.words
@@ -39,10 +40,10 @@ module _ (v : View) (whole : IsWhole v) (s : ℕ) (there : IsOrdinary v s) where
   fields_are = node_fields (heap_store v.words) (body_in v.words s)
 
   pub body_is : body_in v.words s ≡ body_from (fields_of (get_or v.words s 0)) (slots_from v.words s)
-  body_is = object_body v.words words_sound s object
+  body_is = object-body _ v.words _ words_sound.cut s object
 
   pub start_inside : s + 1 < length v.words
-  start_inside = below v.words words_sound s object
+  start_inside = (at_start v.words words_sound s object).below
 
   pub pointers_count : length (node_in v s).pointers ≡ pointer_count (body_in v.words s)
   pointers_count = node_pointers (heap_store v.words) (body_in v.words s) (formed v.words words_sound s object)
@@ -58,15 +59,15 @@ module _ (v : View) (whole : IsWhole v) (s : ℕ) (there : IsOrdinary v s) where
     slot_inside = omega (arith, low, pointers_within v.words words_sound s object)
 
     pub pointer_inside : s + 1 + i < length v.words
-    pointer_inside = object_inside v.words words_sound s object i slot_inside
+    pointer_inside = object-inside _ v.words _ words_sound.cut s object i slot_inside
 
     pub pointer_value : (d : Value) → heap_value v.words (get_or v.words (s + 1 + i) 0) ≡ get_or (node_in v s).pointers i d
     pointer_value d =
-        ap (heap_value v.words) (sym (object_word v.words words_sound s object i slot_inside))
+        ap (heap_value v.words) (sym (object-word _ v.words _ words_sound.cut s object i slot_inside))
         ∙ sym (node_pointer (heap_store v.words) (body_in v.words s) (formed v.words words_sound s object) i d low)
 
     pub pointer_good : IsGood v (get_or v.words (s + 1 + i) 0)
-    pointer_good = ap (is_good v.words) (sym (object_word v.words words_sound s object i slot_inside)) ∙ slot_good v.words words_sound s there i low
+    pointer_good = ap (is_good v.words) (sym (object-word _ v.words _ words_sound.cut s object i slot_inside)) ∙ slot_good v.words words_sound s there i low
 
     pub pointer_write : (w : ℕ) → (is_method (node_in v s).format ≡ true → 0 < i) → IsGood v w → Write v.words s i w
     pointer_write w literals good = record {
@@ -97,7 +98,7 @@ module _ (v : View) (whole : IsWhole v) (s : ℕ) (there : IsOrdinary v s) where
     unit_slot : get_or (body_in v.words s).words slot 0 ≡ get_or v.words (unit_place v.words s i) 0
     unit_slot =
         let place : s + 1 + slot ≡ unit_place v.words s i = omega arith in
-        object_word v.words words_sound s object slot at.inside ∙ ap (λ j. get_or v.words j 0) place
+        object-word _ v.words _ words_sound.cut s object slot at.inside ∙ ap (λ j. get_or v.words j 0) place
 
     pub unit_read : field_of (8 * (i * unit_bytes_in v.words s % 8)) (8 * unit_bytes_in v.words s) (get_or v.words (unit_place v.words s i) 0) ≡ get_or (node_in v s).units i 0
     unit_read =

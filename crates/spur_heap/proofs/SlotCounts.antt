@@ -1,55 +1,31 @@
 -- What the words tell of the slots of an object.
-use Rattle.std.proofs.Common.{◌≡◌, ◌≢◌, ℕ, true, false, cond, ◌+◌, ◌-◌, ◌*◌, ◌/◌, ◌^◌, ◌<◌, ◌≤◌, List, length, get_or, sym, ap, ◌∙◌, arith}
+use Rattle.std.proofs.Common.{◌≡◌, ◌≢◌, ℕ, true, cond, ◌+◌, ◌-◌, ◌*◌, ◌/◌, ◌^◌, ◌<◌, ◌≤◌, List, length, get_or, sym, ap, ◌∙◌, arith}
 use Rattle.std.proofs.lemmas.Bool.{eq-eqb, ne_eqb}
 use Rattle.object_header.specs.Formats.{unit_bytes_of, unused_of, pointer_slots_of}
-use Rattle.object_header.specs.Head.{count_of, format_of, literals_of, overflow_slots_of, whole_units}
-use Rattle.spur_graph.specs.Chunks.{leads}
+use Rattle.object_header.specs.Head.{format_of, literals_of, whole_units}
 use Rattle.spur_graph.specs.Cells.{Body, is_formed, pointer_count, unit_count}
-use Rattle.heap_cells.specs.Rows.{slots_at}
-use Rattle.heap_cells.proofs.Bodies.{pointers-same, pointers_fit}
+use Rattle.heap_cells.specs.Rows.{StandsAt, slots_at}
+use Rattle.heap_cells.proofs.Bodies.{pointers_fit}
+use Rattle.heap_cells.proofs.ObjectReads.{object-stands, object-body, object-slots, object-inside, object-pointers}
 use Rattle.spur_heap.specs.Words.{AreSound, is_object, body_in, unit_place, unit_bytes_in}
-use Rattle.spur_heap.proofs.ObjectWords.{object_start, object_body, object_slots, object_word, object_inside}
 use Rattle.spur_heap.proofs.UnitRows.{UnitAt, a_unit, unused_fit}
-use Rattle.spur_heap.proofs.Nodes.{method_some}
-
-slots_led : (words : List ℕ) (s : ℕ) → leads (get_or words s 0) ≡ true → slots_at words s ≡ overflow_slots_of (get_or words (s - 1) 0)
-unfolding slots_at
-slots_led words s e = ap (λ b. cond b (overflow_slots_of (get_or words (s - 1) 0)) (count_of (get_or words s 0))) e
-
-slots_own : (words : List ℕ) (s : ℕ) → leads (get_or words s 0) ≡ false → slots_at words s ≡ count_of (get_or words s 0)
-unfolding slots_at
-slots_own words s e = ap (λ b. cond b (overflow_slots_of (get_or words (s - 1) 0)) (count_of (get_or words s 0))) e
 
 module _ (words : List ℕ) (k : AreSound words) (s : ℕ) (there : is_object words s ≡ true) where
-  pub below : s + 1 < length words
-  below = (object_start words k s there).below
+  pub at_start : StandsAt words s
+  at_start = object-stands _ words _ k.cut s there
 
   pub formed : is_formed (body_in words s) ≡ true
   formed = k.sound.formed s there
 
   pub format_read : (body_in words s).format ≡ format_of (get_or words s 0)
-  format_read = ap (λ (b : Body). b.format) (object_body words k s there)
-
-  pub behind_lead : (count : ℕ) → count ≡ count_of (get_or words s 0) → count ≡ 255 → 1 ≤ s
-  behind_lead count is e = (object_start words k s there).behind (eq-eqb (count_of (get_or words s 0)) 255 (sym is ∙ e))
-
-  pub led_slots : (count : ℕ) → count ≡ count_of (get_or words s 0) → count ≡ 255 → overflow_slots_of (get_or words (s - 1) 0) ≡ length (body_in words s).words
-  led_slots count is e = sym (object_slots words k s there ∙ slots_led words s (eq-eqb (count_of (get_or words s 0)) 255 (sym is ∙ e)))
-
-  pub own_slots : (count : ℕ) → count ≡ count_of (get_or words s 0) → count ≢ 255 → count ≡ length (body_in words s).words
-  own_slots count is n = is ∙ sym (object_slots words k s there ∙ slots_own words s (ne_eqb (count_of (get_or words s 0)) 255 (λ e. n (is ∙ e))))
+  format_read = ap (λ (b : Body). b.format) (object-body _ words _ k.cut s there)
 
   pub pointers_within : pointer_count (body_in words s) ≤ length (body_in words s).words
   pointers_within = pointers_fit (body_in words s) formed
 
-  pub pointer_count_read : (f n l : ℕ) → f ≡ (body_in words s).format → n ≡ length (body_in words s).words → l ≡ literals_of (get_or words (s + 1) 0) → pointer_slots_of f n l ≡ pointer_count (body_in words s)
-  unfolding pointer_count
-  pointer_count_read f n l f_is n_is l_is =
-      (λ x. pointer_slots_of (f_is x) (n_is x) (l_is x))
-      ∙ pointers-same (body_in words s).format (length (body_in words s).words) (literals_of (get_or words (s + 1) 0)) (literals_of (get_or (body_in words s).words 0 0)) (λ m.
-      let some : 0 < pointer_count (body_in words s) = method_some (body_in words s) m in
-      let front : s + 1 + 0 ≡ s + 1 = omega arith in
-      ap literals_of (sym (object_word words k s there 0 (omega (arith, some, pointers_within)) ∙ ap (λ j. get_or words j 0) front)))
+  -- the pointers, by what was read
+  pub pointer_count_read : pointer_slots_of (format_of (get_or words s 0)) (slots_at words s) (literals_of (get_or words (s + 1) 0)) ≡ pointer_count (body_in words s)
+  pointer_count_read = object-pointers _ words _ k.cut s there formed
 
   pub no_units : (bytes : ℕ) → bytes ≡ unit_bytes_of (body_in words s).format → bytes ≡ 0 → 0 ≡ unit_count (body_in words s)
   unfolding unit_count
@@ -77,13 +53,13 @@ module _ (words : List ℕ) (k : AreSound words) (s : ℕ) (there : is_object wo
     unit_at_place = a_unit (body_in words s) formed i low
 
     pub place_inside : unit_place words s i < length words
-    place_inside = let u = unit_at_place in let far = object_inside words k s there (pointer_count (body_in words s) + i * unit_bytes_in words s / 8) u.inside in omega (arith, far)
+    place_inside = let u = unit_at_place in let far = object-inside _ words _ k.cut s there (pointer_count (body_in words s) + i * unit_bytes_in words s / 8) u.inside in omega (arith, far)
 
     pub place_small : i * unit_bytes_in words s < 2 ^ 30
     place_small =
         let u = unit_at_place in
-        let slots = object_slots words k s there in
-        let fits = (object_start words k s there).fits in
+        let slots = object-slots _ words _ k.cut s there in
+        let fits = at_start.fits in
         let few = k.few in
         omega (arith, u.small, slots, fits, few)
 

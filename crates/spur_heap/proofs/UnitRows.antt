@@ -3,7 +3,7 @@ use Rattle.std.proofs.Common.{◌≡◌, ◌≢◌, ℕ, zero, suc, true, not, �
 use Rattle.std.specs.List.{range_with_len}
 use Rattle.std.proofs.lemmas.Bool.{cases_eq, and_parts, not-true, ltb-false}
 use Rattle.std.proofs.lemmas.List.{length-drop, get_or-drop, drop-set-add, get_or-set_same, get_or-set_other}
-use Rattle.std.proofs.lemmas.List.FromFn.{length-map-range_with_len, get_or-map-range_with_len}
+use Rattle.std.proofs.lemmas.List.FromFn.{get_or-map-range_with_len}
 use Rattle.object_header.specs.Field.{field_of, with_field, SetsField}
 use Rattle.object_header.specs.Formats.{is_method, unit_bytes_of, unused_of}
 use Rattle.object_header.specs.Head.{is_refused_format, whole_units, has_literals}
@@ -64,9 +64,6 @@ pub record UnitAt (b : Body) (i : ℕ) : Type 0 where
   pub inside : pointer_count b + i * unit_bytes_of b.format / 8 < length b.words
   pub small : i * unit_bytes_of b.format < length b.words * 8
   pub read : get_or (units b) i 0 ≡ field_of (8 * (i * unit_bytes_of b.format % 8)) (8 * unit_bytes_of b.format) (get_or b.words (pointer_count b + i * unit_bytes_of b.format / 8) 0)
-
-pub units_count : (b : Body) → length (units b) ≡ unit_count b
-units_count b = length-map-range_with_len (unit_at (unit_bytes_of b.format) (drop (pointer_count b) b.words)) 0 (unit_count b)
 
 module _ (b : Body) (formed : is_formed b ≡ true) where
   -- the unused units are among those that fill the slots

@@ -6,17 +6,21 @@ use Rattle.object_header.specs.Fields.{Fields, fields_of}
 use Rattle.object_header.specs.Head.{class_of}
 use Rattle.heap_walk.specs.Starts.{has_start}
 use Rattle.heap_walk.specs.declared.starts.StartMap.{StartMap}
-use Rattle.spur_graph.specs.Chunks.{Chunk, IsChunk, Cuts, chunks, slots_of}
+use Rattle.spur_graph.specs.Chunks.{Chunk, chunk_of, IsChunk, Cuts, chunks, slots_of}
 use Rattle.spur_graph.specs.Cells.{cell_from, is_start, read_cell, start_named}
 use Rattle.spur_graph.specs.Heaps.{heap_to}
 use Rattle.heap_cells.specs.Rows.{starts_of}
 use Rattle.heap_cells.proofs.Members.{In}
 use Rattle.heap_cells.proofs.Cutting.{chunk_of-lies, chunk_of-at, ends_after, cell-at, start-in, shape, stands}
 use Rattle.heap_cells.proofs.Starts.{in_order, start-read}
-use Rattle.spur_heap.specs.Words.{AreSound, IsBorder, MarksBelow, starts_at, chunk_at}
+use Rattle.spur_heap.specs.Words.{AreSound, IsBorder, MarksBelow, starts_at}
+
+-- the chunk whose first word stands at `at`
+abbrev pub chunk_at : List ℕ → ℕ → Chunk
+chunk_at words at = chunk_of at (get_or words at 0)
 
 -- the chunk with the number `k` stands at `at`
-pub record StandsAt (words : List ℕ) (at end k : ℕ) (cs : List Chunk) : Type 0 where
+pub record IsChunkAt (words : List ℕ) (at end k : ℕ) (cs : List Chunk) : Type 0 where
   pub inside : at < end
   pub fits : at + (chunk_at words at).size ≤ end
   pub rest : Cuts words (at + (chunk_at words at).size) end (drop (suc k) cs)
@@ -26,9 +30,9 @@ pub record StandsAt (words : List ℕ) (at end k : ℕ) (cs : List Chunk) : Type
   pub chunk : IsChunk words at (chunk_at words at)
   pub in_row : In cs (chunk_at words at)
 
-pub stands_at : (words : List ℕ) (at end k : ℕ) (cs : List Chunk) → Cuts words at end (drop k cs) → k < length cs → StandsAt words at end k cs
-stands_at words at end k [] t l = absurd (omega arith)
-stands_at words at end zero (c ∷ cs) t l =
+pub chunk_stands : (words : List ℕ) (at end k : ℕ) (cs : List Chunk) → Cuts words at end (drop k cs) → k < length cs → IsChunkAt words at end k cs
+chunk_stands words at end k [] t l = absurd (omega arith)
+chunk_stands words at end zero (c ∷ cs) t l =
     let is : c ≡ chunk_at words at = t.0.is in
     let lies = chunk_of-lies at (get_or words at 0) in
     let rest : Cuts words (at + (chunk_at words at).size) end cs = subst (λ (d : Chunk). Cuts words (at + d.size) end cs) is t.1 in
@@ -43,8 +47,8 @@ stands_at words at end zero (c ∷ cs) t l =
       chunk = subst (λ (d : Chunk). IsChunk words at d) is t.0;
       in_row = inl is;
     }
-stands_at words at end (suc k) (c ∷ cs) t l =
-    let r = stands_at words at end k cs t (omega arith) in
+chunk_stands words at end (suc k) (c ∷ cs) t l =
+    let r = chunk_stands words at end k cs t (omega arith) in
     record { inside = r.inside; fits = r.fits; rest = r.rest; start = r.start; after = r.after; room = r.room; chunk = r.chunk; in_row = inr r.in_row }
 
 left : (words : List ℕ) (at end k : ℕ) (cs : List Chunk) → Cuts words at end (drop k cs) → at < end → k < length cs
@@ -63,8 +67,8 @@ start_from f next ws = elim (cases_Bool (eqb f.class 0)) [
 ]
 
 module _ (words : List ℕ) (k : AreSound words) (at : ℕ) (border : IsBorder words at) (inside : at < length words) where
-  pub here : StandsAt words at (length words) border.0 (chunks words)
-  here = stands_at words at (length words) border.0 (chunks words) border.1 (left words at (length words) border.0 (chunks words) border.1 inside)
+  pub here : IsChunkAt words at (length words) border.0 (chunks words)
+  here = chunk_stands words at (length words) border.0 (chunks words) border.1 (left words at (length words) border.0 (chunks words) border.1 inside)
 
   pub next_border : IsBorder words (at + (chunk_at words at).size)
   next_border = (suc border.0, here.rest)
@@ -128,5 +132,5 @@ marks_all words k at l map below s = below s ∙ elim (cases_Bool (starts_at wor
 ]
 
 -- one of the first five chunks
-pub early : (words : List ℕ) → AreSound words → (at j : ℕ) → j < 5 → Cuts words at (length words) (drop j (chunks words)) → StandsAt words at (length words) j (chunks words)
-early words k at j l t = stands_at words at (length words) j (chunks words) t (let five : 5 ≤ length (starts_of (chunks words)) = k.sound.roots.five in omega (arith, l, five, length-map (chunks words) (λ (c : Chunk). c.start)))
+pub early : (words : List ℕ) → AreSound words → (at j : ℕ) → j < 5 → Cuts words at (length words) (drop j (chunks words)) → IsChunkAt words at (length words) j (chunks words)
+early words k at j l t = chunk_stands words at (length words) j (chunks words) t (let five : 5 ≤ length (starts_of (chunks words)) = k.sound.roots.five in omega (arith, l, five, length-map (chunks words) (λ (c : Chunk). c.start)))

@@ -1,6 +1,6 @@
 -- A word of the body of an ordinary object is written.
-use Rattle.std.proofs.Common.{◌≡◌, ℕ, true, not, ◌&&◌, ◌+◌, ◌-◌, ◌<◌, ◌≤◌, List, map, length, get_or, set, refl, sym, ap, ◌∙◌, subst, arith, inl, inr}
-use Rattle.std.proofs.lemmas.Bool.{false≢true, cases_eq, cases_lt, lt-ltb, not-false}
+use Rattle.std.proofs.Common.{◌≡◌, ℕ, true, not, ◌&&◌, ◌+◌, ◌-◌, ◌<◌, ◌≤◌, List, map, length, get_or, set, sym, ap, ◌∙◌, subst, arith, inl, inr}
+use Rattle.std.proofs.lemmas.Bool.{cases_eq, cases_lt, lt-ltb, not-false}
 use Rattle.std.proofs.lemmas.List.{length-set, get_or-set_same, get_or-set_other}
 use Rattle.std.proofs.lemmas.List.Elements.{Contains-get_or}
 use Rattle.std.specs.List.{All}
@@ -8,28 +8,25 @@ use Rattle.std.specs.FinMap.{FinMap}
 use Rattle.spur_graph.specs.declared.limits.Limits.{Limits}
 use Rattle.spur_graph.specs.Graph.{handle_cmp, with_node}
 use Rattle.spur_graph.specs.Chunks.{Chunk, Cuts, chunks}
-use Rattle.spur_graph.specs.Cells.{Body, Cell, Empty, Moved, There, Store, body_of, is_there, pointer_count, cell_in, is_start}
+use Rattle.spur_graph.specs.Cells.{Body, There, Store, is_there, pointer_count, cell_in, is_start}
 use Rattle.spur_graph.specs.Ordinary.{is_ordinary, is_good_word, is_good_reference}
 use Rattle.spur_graph.specs.CellGraph.{read, node_of, graph_of}
 use Rattle.spur_graph.specs.CellRoom.{room_of, free_sizes}
 use Rattle.spur_graph.specs.Heaps.{heap_store, heap_to, heap_value, handle_values, own_name, IsClear, IsSound}
 use Rattle.heap_cells.specs.Rows.{slots_at, starts_of}
 use Rattle.heap_cells.specs.RowWrites.{Rewrites}
+use Rattle.heap_cells.proofs.CellKinds.{there_starts, there_is}
 use Rattle.heap_cells.proofs.Bodies.{IsLike, with_words}
 use Rattle.heap_cells.proofs.Cutting.{chunks-are}
 use Rattle.heap_cells.proofs.Members.{In, in_list, listed, start_of_chunk}
 use Rattle.heap_cells.proofs.ObjectWrites.{body-written}
 use Rattle.heap_cells.proofs.References.{ordinary_there}
 use Rattle.heap_cells.proofs.Starts.{starts-rise}
+use Rattle.heap_cells.proofs.ObjectReads.{object-slots}
 use Rattle.spur_heap.specs.Words.{AreSound, body_in, is_good, starts_at}
-use Rattle.spur_heap.proofs.ObjectWords.{object_start, object_slots}
+use Rattle.spur_heap.proofs.Hops.{start_at}
 use Rattle.spur_heap.proofs.Changing.{changed, Change, start-same, ordinary-same, reference-same, good-same, sound_changed}
 use Rattle.spur_heap.proofs.Graphs.{read-same, graph-changed, room-same}
-
-there_is : (c : Cell) → is_there c ≡ true → c ≡ There (body_of c)
-there_is Empty e = absurd (false≢true e)
-there_is (Moved t) e = absurd (false≢true e)
-there_is (There b) e = refl
 
 -- a pointer slot of an ordinary object has a good word
 pub slot_good : (words : List ℕ) → AreSound words → (s : ℕ) → is_ordinary (heap_store words) s ≡ true → (i : ℕ) → i < pointer_count (body_in words s) → is_good words (get_or (body_in words s).words i 0) ≡ true
@@ -52,7 +49,7 @@ module _ (words : List ℕ) (s n w : ℕ) (k : Write words s n w) where
   object = ordinary_there (heap_store words) s k.ordinary
 
   slots : length (body_in words s).words ≡ slots_at words s
-  slots = object_slots words k.sound s object
+  slots = object-slots _ words _ k.sound.cut s object
 
   rewrites : Rewrites heap_to words (set words (s + 1 + n) w) (length words) (chunks words) s (There (body_then words s n w))
   rewrites =
@@ -119,7 +116,7 @@ module _ (words : List ℕ) (s n w : ℕ) (k : Write words s n w) where
   header_kept c m = get_or-set_other words (s + 1 + n) c.start w 0 (λ e. elim (cases_lt s c.start) [
     | inr before ↦ omega (arith, e, before)
     | inl behind ↦
-        let a = (starts-rise words (length words) (chunks words) k.sound.cut).apart s c.start (object_start words k.sound s object).stands (listed (starts_of (chunks words)) c.start (start_of_chunk (chunks words) c m)) behind in
+        let a = (starts-rise words (length words) (chunks words) k.sound.cut).apart s c.start (start_at words k.sound s (there_starts ((heap_store words).cell s) object)).stands (listed (starts_of (chunks words)) c.start (start_of_chunk (chunks words) c m)) behind in
         omega (arith, e, a.slots, slots, k.inside)
   ])
 
@@ -133,7 +130,7 @@ module _ (words : List ℕ) (s n w : ℕ) (k : Write words s n w) where
       ≡ with_node (graph_of own_name (heap_store words) special (handle_values (heap_value words) held) hash (length words)) s (node_of own_name (heap_store words) (body_then words s n w))
   graph_written special held hash =
       (λ x. graph_of own_name (store-changed x) special (handle_values (read own_name (store-changed x)) held) hash (same_length x))
-      ∙ graph-changed change (in_list (starts_of (chunks words)) s (object_start words k.sound s object).stands) special held hash (length words)
+      ∙ graph-changed change (in_list (starts_of (chunks words)) s (start_at words k.sound s (there_starts ((heap_store words).cell s) object)).stands) special held hash (length words)
 
   pub room_kept : (limits : Limits)
       → room_of own_name (heap_store (set words (s + 1 + n) w)) (chunks (set words (s + 1 + n) w)) (length (set words (s + 1 + n) w)) limits (free_sizes (heap_store (set words (s + 1 + n) w)) (chunks (set words (s + 1 + n) w)))

@@ -3,3 +3,4 @@ pub mod Sizes
 pub mod Bares
 pub mod Parts
 pub mod Views
+pub mod Lending

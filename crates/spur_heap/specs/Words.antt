@@ -4,7 +4,7 @@ use Rattle.heap_walk.specs.Starts.{has_start}
 use Rattle.heap_walk.specs.declared.starts.StartMap.{StartMap}
 use Rattle.object_header.specs.Field.{with_field}
 use Rattle.object_header.specs.Formats.{unit_bytes_of}
-use Rattle.spur_graph.specs.Chunks.{Chunk, chunk_of, Cuts, chunks}
+use Rattle.spur_graph.specs.Chunks.{Cuts, chunks}
 use Rattle.spur_graph.specs.Cells.{Body, is_start, is_there, pointer_count}
 use Rattle.spur_graph.specs.Ordinary.{body_at, is_good_word}
 use Rattle.spur_graph.specs.Heaps.{heap_store, IsSound}
@@ -31,10 +31,6 @@ IsBorder words at = (k : ℕ) × Cuts words at (length words) (drop k (chunks wo
 -- the starts below `at` are marked, and no other
 abbrev pub MarksBelow : List ℕ → ℕ → StartMap → Type 0
 MarksBelow words at map = (s : ℕ) → has_start map s ≡ (nat_lt s at && starts_at words s)
-
--- the chunk whose first word stands at `at`
-abbrev pub chunk_at : List ℕ → ℕ → Chunk
-chunk_at words at = chunk_of at (slice_index words at)
 
 -- an object starts there
 abbrev pub is_object : List ℕ → ℕ → Bool

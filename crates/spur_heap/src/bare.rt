@@ -2,7 +2,9 @@
 ghost use Rattle.std.specs.Prelude.{◌≡◌, ◌+◌, ◌*◌, ◌^◌, ◌≤◌, ℕ, IfOk, length, replicate, false};
 ghost use Rattle.std.specs.FinMap as map;
 ghost use Rattle.heap_walk.specs.Starts.{has_start, covered};
+ghost use Rattle.std.specs.Borrow.{sem};
 ghost use Rattle.spur_heap.specs.Bares.{room_of};
+ghost use Rattle.spur_heap.specs.Lending.{LendsRegion};
 
 use handle_table::HandleTable;
 use heap_walk::StartMap;
@@ -46,5 +48,13 @@ impl Bare {
             handles,
             limits,
         })
+    }
+
+    /// The region, to be filled. Nothing else changes.
+    pub fn region_mut(&mut self) -> &mut Region
+        ensures* writes_back { sem 𝓛 (LendsRegion self.entry result) }
+        ensures value { result.now ≡ self.old.region }
+    {
+        &mut self.region
     }
 }

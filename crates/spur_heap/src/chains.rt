@@ -6,24 +6,22 @@ ghost use Rattle.heap_cells.specs.Settled.{settled_word};
 ghost use Rattle.spur_heap.specs.Words.{AreSound, starts_at, is_good};
 
 use object_header::{FORWARDER_CLASS, Header};
-use spur_words::Region;
 
 /// The start of the object to which the forwarders from `start` on lead.
-pub fn follow_start(words: &Region, start: usize) -> usize
+pub fn follow_start(words: &[u64], start: usize) -> usize
     requires sound { AreSound words.now }
     requires there { starts_at words.now start ≡ true }
     ensures { result ≡ final (heap_store words.now) start }
 {
-    let _end = words.len();
     let mut at = start;
-    'hops: while Header(words.get(at)).class() == FORWARDER_CLASS {
-        at = (words.get(at + 1) / 8) as usize;
+    'hops: while Header(words[at]).class() == FORWARDER_CLASS {
+        at = (words[at + 1] / 8) as usize;
     }
     at
 }
 
 /// The word, followed: an immediate stays.
-pub fn follow_word(words: &Region, word: u64) -> u64
+pub fn follow_word(words: &[u64], word: u64) -> u64
     requires sound { AreSound words.now }
     requires good { is_good words.now word ≡ true }
     ensures followed { result ≡ settled_word (heap_store words.now) word }

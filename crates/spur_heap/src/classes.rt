@@ -8,26 +8,19 @@ ghost use Rattle.spur_heap.specs.Words.{AreSound, is_good};
 
 use crate::chains::follow_word;
 use crate::places::{first_start, first_word};
-use spur_words::Region;
-
-/// The number of the hidden roots among all chunks.
-const ROOTS: usize = 4;
-
-/// How many entries a page of the class table has.
-const PAGE_ENTRIES: usize = 1024;
+use spur_graph::{HIDDEN_ROOTS, PAGE_ENTRIES};
 
 /// Slot `i` of the hidden roots.
-fn root_word(words: &Region, i: usize) -> u64
+fn root_word(words: &[u64], i: usize) -> u64
     requires sound { AreSound words.now }
     requires inside { i < roots_slots }
     ensures { result ≡ root_slot (heap_store words.now) i }
 {
-    let _end = words.len();
-    words.get(first_start(words, ROOTS) + 1 + i)
+    words[first_start(words, HIDDEN_ROOTS) + 1 + i]
 }
 
 /// The word of the class of an index, followed; that of nil where the class table has no page there.
-pub fn class_word(words: &Region, index: usize) -> u64
+pub fn class_word(words: &[u64], index: usize) -> u64
     requires sound { AreSound words.now }
     requires index { index < 2 ^ 22 }
     ensures class { result ≡ (if has_page (heap_store words.now) index then settled_word (heap_store words.now) (entry (heap_store words.now) index) else word_of (first (heap_store words.now) 0)) }
@@ -38,6 +31,6 @@ pub fn class_word(words: &Region, index: usize) -> u64
     if page == nil {
         return nil;
     }
-    let entry = words.get((page / 8) as usize + 1 + index % PAGE_ENTRIES);
+    let entry = words[(page / 8) as usize + 1 + index % PAGE_ENTRIES];
     follow_word(words, entry)
 }

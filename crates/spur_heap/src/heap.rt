@@ -5,7 +5,8 @@ ghost use Rattle.heap_walk.specs.Starts.{has_start, covered};
 ghost use Rattle.spur_graph.specs.declared.answer.Refusal.TheVariants as refusals;
 ghost use Rattle.spur_graph.specs.Refusals.{most_handles};
 ghost use Rattle.spur_graph.specs.Cells.{first};
-ghost use Rattle.spur_graph.specs.Heaps.{heap_value, IsWhole};
+ghost use Rattle.spur_graph.specs.Graph.{IsClosed};
+ghost use Rattle.spur_graph.specs.Heaps.{heap_graph, heap_value, IsWhole};
 ghost use Rattle.heap_cells.specs.Settled.{word_of};
 ghost use Rattle.spur_heap.specs.Views.{IsGood, adopted, class_word, follows, store};
 
@@ -15,7 +16,7 @@ use crate::classes::class_word;
 use crate::places::{first_word, mark_starts};
 use handle_table::HandleTable;
 use heap_walk::StartMap;
-use spur_graph::{HandleName, Limits, Refusal};
+use spur_graph::{HandleName, Limits, Refusal, words_fit};
 use spur_words::Region;
 use std::marker::Model;
 
@@ -76,7 +77,7 @@ impl Heap {
             handles,
             limits,
         } = bare;
-        mark_starts(&region, &mut starts);
+        mark_starts(region.as_slice(), &mut starts);
         let old_end = region.len();
         Heap {
             parts: HeapParts {
@@ -92,11 +93,14 @@ impl Heap {
         }
     }
 
-    /// Every heap is whole.
+    /// Every heap is whole, and its graph is closed.
     pub fn whole(&self)
-        ensures { IsWhole self.now }
+        ensures whole { IsWhole self.now }
+        ensures closed { IsClosed (heap_graph self.now) }
     {
-        let _parts = &self.parts;
+        let parts = &self.parts;
+        words_fit(parts.region.as_slice());
+        parts.handles.held_fit();
     }
 
     /// The word of nil.
@@ -104,7 +108,7 @@ impl Heap {
         ensures word { result ≡ word_of (first (store self.now) 0) }
         ensures good { IsGood self.now result }
     {
-        first_word(&self.parts.region, 0)
+        first_word(self.parts.region.as_slice(), 0)
     }
 
     /// The word of false.
@@ -112,7 +116,7 @@ impl Heap {
         ensures word { result ≡ word_of (first (store self.now) 1) }
         ensures good { IsGood self.now result }
     {
-        first_word(&self.parts.region, 1)
+        first_word(self.parts.region.as_slice(), 1)
     }
 
     /// The word of true.
@@ -120,7 +124,7 @@ impl Heap {
         ensures word { result ≡ word_of (first (store self.now) 2) }
         ensures good { IsGood self.now result }
     {
-        first_word(&self.parts.region, 2)
+        first_word(self.parts.region.as_slice(), 2)
     }
 
     /// The word of the special objects array.
@@ -139,7 +143,7 @@ impl Heap {
         ensures value { heap_value self.now.words result ≡ heap_value self.now.words word }
         ensures good { IsGood self.now result }
     {
-        follow_word(&self.parts.region, word)
+        follow_word(self.parts.region.as_slice(), word)
     }
 
     /// The word of the class of an index, followed: that of nil where the class table has no entry there.
@@ -148,7 +152,7 @@ impl Heap {
         ensures class { class_word self.now index result }
         ensures good { IsGood self.now result }
     {
-        class_word(&self.parts.region, index as usize)
+        class_word(self.parts.region.as_slice(), index as usize)
     }
 
     /// The word of a handle of this mutator, if it is held.

@@ -31,7 +31,7 @@ impl Heap {
         requires there { IsOrdinary self.now start }
         ensures { result ≡ length (node_in self.now start).pointers }
     {
-        pointer_count_of(&self.parts.region, start)
+        pointer_count_of(self.parts.region.as_slice(), start)
     }
 
     /// The word of a pointer slot of an object. It may name a forwarder.
@@ -69,7 +69,7 @@ impl Heap {
         requires there { IsOrdinary self.now start }
         ensures { result ≡ length (node_in self.now start).units }
     {
-        unit_count_of(&self.parts.region, start)
+        unit_count_of(self.parts.region.as_slice(), start)
     }
 
     /// The bytes of a unit of an object, 0 where its format has no units.
@@ -77,7 +77,7 @@ impl Heap {
         requires there { IsOrdinary self.now start }
         ensures { result ≡ unit_bytes_of (node_in self.now start).format }
     {
-        format_of(&self.parts.region, start).unit_bytes()
+        format_of(self.parts.region.as_slice(), start).unit_bytes()
     }
 
     /// Unit `i` of an object. Units stand behind its pointer slots, and in a word the first is the lowest.
@@ -86,9 +86,9 @@ impl Heap {
         requires within { i < length (node_in self.now start).units }
         ensures { result ≡ slice_index (node_in self.now start).units i }
     {
-        let region = &self.parts.region;
-        let word = region.get(unit_place_of(region, start, i));
-        let bytes = format_of(region, start).unit_bytes();
+        let words = self.parts.region.as_slice();
+        let word = words[unit_place_of(words, start, i)];
+        let bytes = format_of(words, start).unit_bytes();
         unit_of(word, 8 * (i * bytes % 8), bytes)
     }
 
@@ -104,9 +104,10 @@ impl Heap {
         ensures goods { (w : ℕ) → IsGood self.old w → IsGood self.new w }
         ensures ordinary { (s : ℕ) → IsOrdinary self.old s → IsOrdinary self.new s }
     {
-        let at = unit_place_of(&self.parts.region, start, i);
-        let bytes = format_of(&self.parts.region, start).unit_bytes();
-        let word = self.parts.region.get(at);
+        let words = self.parts.region.as_slice();
+        let at = unit_place_of(words, start, i);
+        let bytes = format_of(words, start).unit_bytes();
+        let word = words[at];
         self.parts
             .region
             .put(at, with_unit(word, 8 * (i * bytes % 8), bytes, value));

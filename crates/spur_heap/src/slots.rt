@@ -3,52 +3,34 @@ ghost use Rattle.std.specs.Prelude.{◌≡◌, ◌≤◌, ◌<◌, ◌*◌, ◌^
 ghost use Rattle.spur_graph.specs.Cells.{pointer_count, unit_count};
 ghost use Rattle.spur_heap.specs.Words.{AreSound, is_object, body_in, unit_bytes_in, unit_place};
 
-use object_header::{Format, Header, LiteralsField, OVERFLOW_COUNT, OverflowSlotsField};
-use spur_words::Region;
-
-/// The number of slots of an object.
-#[tactic(auto, unfolding(heap_cells::specs::Rows::slots_at))]
-fn slots_of(words: &Region, start: usize) -> usize
-    requires sound { AreSound words.now }
-    requires there { is_object words.now start ≡ true }
-    ensures { result ≡ length (body_in words.now start).words }
-{
-    let count = Header(words.get(start)).count();
-    if count == OVERFLOW_COUNT {
-        OverflowSlotsField::get(words.get(start - 1)) as usize
-    } else {
-        count as usize
-    }
-}
+use heap_cells::{pointers_of, slots_of};
+use object_header::{Format, Header};
 
 /// The format of an object.
-pub fn format_of(words: &Region, start: usize) -> Format
+pub fn format_of(words: &[u64], start: usize) -> Format
     requires sound { AreSound words.now }
     requires there { is_object words.now start ≡ true }
     ensures { result ≡ (body_in words.now start).format }
 {
-    Format::new(Header(words.get(start)).format() as u8)
+    Format::new(Header(words[start]).format() as u8)
 }
 
 /// How many slots of an object are pointers.
-pub fn pointer_count_of(words: &Region, start: usize) -> usize
+pub fn pointer_count_of(words: &[u64], start: usize) -> usize
     requires sound { AreSound words.now }
     requires there { is_object words.now start ≡ true }
     ensures count { result ≡ pointer_count (body_in words.now start) }
     ensures fits { result ≤ length (body_in words.now start).words }
 {
-    let _end = words.len();
-    let literals = LiteralsField::get(words.get(start + 1)) as usize;
-    format_of(words, start).pointer_slots(slots_of(words, start), literals)
+    pointers_of(words, start)
 }
 
 /// How many units an object has.
-pub fn unit_count_of(words: &Region, start: usize) -> usize
+pub fn unit_count_of(words: &[u64], start: usize) -> usize
     requires sound { AreSound words.now }
     requires there { is_object words.now start ≡ true }
     ensures { result ≡ unit_count (body_in words.now start) }
 {
-    let _end = words.len();
     let format = format_of(words, start);
     let slots = slots_of(words, start) - pointer_count_of(words, start);
     match format.unit_bytes() {
@@ -58,7 +40,7 @@ pub fn unit_count_of(words: &Region, start: usize) -> usize
 }
 
 /// The index of the word that holds unit `i` of an object.
-pub fn unit_place_of(words: &Region, start: usize, i: usize) -> usize
+pub fn unit_place_of(words: &[u64], start: usize, i: usize) -> usize
     requires sound { AreSound words.now }
     requires there { is_object words.now start ≡ true }
     requires within { i < unit_count (body_in words.now start) }
@@ -66,7 +48,6 @@ pub fn unit_place_of(words: &Region, start: usize, i: usize) -> usize
     ensures inside { result < length words.now }
     ensures small { i * unit_bytes_in words.now start < 2 ^ 30 }
 {
-    let _end = words.len();
     let bytes = format_of(words, start).unit_bytes();
     start + 1 + pointer_count_of(words, start) + i * bytes / 8
 }

@@ -41,6 +41,13 @@ impl Region {
         self.words.len()
     }
 
+    /// All words.
+    pub fn as_slice(&self) -> &[u64]
+        ensures { result.now ≡ self.now }
+    {
+        self.words.as_slice()
+    }
+
     /// The word at the index `at`.
     pub fn get(&self, at: usize) -> u64
         requires { at < length self.now }

@@ -7,7 +7,7 @@ use std::test::Fail;
 fn new_region_is_zeros(rt: HostRuntime) -> Result<(), Fail> {
     let region = Region::new(rt.alloc(), 3)?;
     assert_eq!(rt; region.len(), 3);
-    assert_eq!(rt; region.window(0, 3), [0, 0, 0].as_slice());
+    assert_eq!(rt; region.as_slice(), [0, 0, 0].as_slice());
     Ok(())
 }
 

@@ -1,8 +1,5 @@
-use Rattle.std.proofs.Common.{◌+◌, Some, get_or, sym, ap, ◌∙◌}
-use Rattle.spur_graph.specs.Cells.{is_there}
-use Rattle.spur_graph.specs.FileStores.{file_store}
-use Rattle.image_checks.proofs.Shortened.{there-still}
-use Rattle.image_checks.proofs.Resolving.{moved-below, named-below, left-first, left-next, left-end, left-nowhere, left-over}
+use Rattle.std.proofs.Common.{◌+◌, Some, get_or, sym, ap, ◌∙◌, arith}
+use Rattle.image_checks.proofs.Resolving.{told_moved, moved-below, named-below, left-first, left-next, left-nowhere, left-over, arrives}
 use Rattle.image_checks.proofs.chains.end_of.Goals as goal
 
 pub steps-init : goal.steps-init
@@ -17,49 +14,50 @@ returns-in-None-clause-lost c =
     let i = c.steps.invariant in
     left-nowhere c.args.map.now c.args.words.now c.args.starts.now c.requires.known c.steps._step c.steps.at c.args.s c.steps-test.true i.moved (sym c.to_region.ensures ∙ c.in-None.is) i.left
 
-pub is_object-requires-clause-inside : goal.is_object-requires-clause-inside
-is_object-requires-clause-inside c =
-    named-below c.args.map.now c.args.words.now c.args.starts.now c.requires.known (get_or c.args.words.now (c.steps.at + 1) 0) c.in-Some.next (sym c.to_region.ensures ∙ c.in-Some.is)
-
-pub returns-then-is_object-clause-end : goal.returns-then-is_object-clause-end
-returns-then-is_object-clause-end c =
-    let i = c.steps.invariant in
-    let m = c.args.map.now in
-    let ws = c.args.words.now in
-    let st = c.args.starts.now in
-    let k = c.requires.known in
-    let w = sym c.to_region.ensures ∙ c.in-Some.is in
-    let there = sym (c.is_object.ensures m k.cut k.marked) ∙ c.if-is_object.true in
-    let left = left-next m ws st k c.steps._step c.steps.at c.args.s c.in-Some.next c.steps-test.true i.moved w i.left in
-    w ∙ ap Some (sym (left-end m ws st k (c.steps._step + 1) c.in-Some.next c.args.s (there-still ((file_store m ws).cell c.in-Some.next) there) left))
-
-pub returns-then-is_object-clause-ends : goal.returns-then-is_object-clause-ends
-returns-then-is_object-clause-ends c =
-    let i = c.steps.invariant in
-    let m = c.args.map.now in
-    let ws = c.args.words.now in
-    let st = c.args.starts.now in
-    let k = c.requires.known in
-    let w = sym c.to_region.ensures ∙ c.in-Some.is in
-    let there = sym (c.is_object.ensures m k.cut k.marked) ∙ c.if-is_object.true in
-    let left = left-next m ws st k c.steps._step c.steps.at c.args.s c.in-Some.next c.steps-test.true i.moved w i.left in
-    ap (λ t. is_there ((file_store m ws).cell t)) (left-end m ws st k (c.steps._step + 1) c.in-Some.next c.args.s (there-still ((file_store m ws).cell c.in-Some.next) there) left) ∙ there
-
 pub is_forwarder-requires-clause-inside : goal.is_forwarder-requires-clause-inside
 is_forwarder-requires-clause-inside c =
     named-below c.args.map.now c.args.words.now c.args.starts.now c.requires.known (get_or c.args.words.now (c.steps.at + 1) 0) c.in-Some.next (sym c.to_region.ensures ∙ c.in-Some.is)
 
-pub returns-then-not-is_forwarder-clause-lost : goal.returns-then-not-is_forwarder-clause-lost
-returns-then-not-is_forwarder-clause-lost c =
+pub has-requires : goal.has-requires
+has-requires c =
+    let below = named-below c.args.map.now c.args.words.now c.args.starts.now c.requires.known (get_or c.args.words.now (c.steps.at + 1) 0) c.in-Some.next (sym c.to_region.ensures ∙ c.in-Some.is) in
+    omega (arith, below, c.requires.known.covers)
+
+pub returns-then-has-clause-end : goal.returns-then-has-clause-end
+returns-then-has-clause-end c =
     let i = c.steps.invariant in
     let m = c.args.map.now in
     let ws = c.args.words.now in
     let st = c.args.starts.now in
     let k = c.requires.known in
     let w = sym c.to_region.ensures ∙ c.in-Some.is in
-    let off = sym (c.is_forwarder.ensures m k.cut k.marked) ∙ c.if-not-is_forwarder.true in
-    let left = left-next m ws st k c.steps._step c.steps.at c.args.s c.in-Some.next c.steps-test.true i.moved w i.left in
-    ap (λ t. is_there ((file_store m ws).cell t)) (left-end m ws st k (c.steps._step + 1) c.in-Some.next c.args.s off left) ∙ sym (c.is_object.ensures m k.cut k.marked) ∙ c.if-is_object.false
+    let off = told_moved m ws st k c.in-Some.next c.is_forwarder.result c.is_forwarder.ensures ∙ c.if-not-is_forwarder.true in
+    let end = arrives m ws st k c.steps._step c.steps.at c.args.s c.in-Some.next c.steps-test.true i.moved w i.left off in
+    w ∙ ap Some (sym end.0)
+
+pub returns-then-has-clause-ends : goal.returns-then-has-clause-ends
+returns-then-has-clause-ends c =
+    let i = c.steps.invariant in
+    let m = c.args.map.now in
+    let ws = c.args.words.now in
+    let st = c.args.starts.now in
+    let k = c.requires.known in
+    let w = sym c.to_region.ensures ∙ c.in-Some.is in
+    let off = told_moved m ws st k c.in-Some.next c.is_forwarder.result c.is_forwarder.ensures ∙ c.if-not-is_forwarder.true in
+    let end = arrives m ws st k c.steps._step c.steps.at c.args.s c.in-Some.next c.steps-test.true i.moved w i.left off in
+    end.1 ∙ sym c.has.ensures ∙ c.if-has.true
+
+pub returns-else-has-clause-lost : goal.returns-else-has-clause-lost
+returns-else-has-clause-lost c =
+    let i = c.steps.invariant in
+    let m = c.args.map.now in
+    let ws = c.args.words.now in
+    let st = c.args.starts.now in
+    let k = c.requires.known in
+    let w = sym c.to_region.ensures ∙ c.in-Some.is in
+    let off = told_moved m ws st k c.in-Some.next c.is_forwarder.result c.is_forwarder.ensures ∙ c.if-not-is_forwarder.true in
+    let end = arrives m ws st k c.steps._step c.steps.at c.args.s c.in-Some.next c.steps-test.true i.moved w i.left off in
+    end.1 ∙ sym c.has.ensures ∙ c.if-has.false
 
 pub steps-preserved : goal.steps-preserved
 steps-preserved c =
@@ -68,12 +66,9 @@ steps-preserved c =
     let ws = c.args.words.now in
     let st = c.args.starts.now in
     let k = c.requires.known in
-    let on = sym (c.is_forwarder.ensures m k.cut k.marked) ∙ c.if-not-is_forwarder.false in
-    record {
-      inside = moved-below m ws st k c.in-Some.next on;
-      moved = on;
-      left = left-next m ws st k c.steps._step c.steps.at c.args.s c.in-Some.next c.steps-test.true i.moved (sym c.to_region.ensures ∙ c.in-Some.is) i.left;
-    }
+    let w = sym c.to_region.ensures ∙ c.in-Some.is in
+    let on = told_moved m ws st k c.in-Some.next c.is_forwarder.result c.is_forwarder.ensures ∙ c.if-not-is_forwarder.false in
+    record { inside = moved-below m ws st k c.in-Some.next on; moved = on; left = left-next m ws st k c.steps._step c.steps.at c.args.s c.in-Some.next c.steps-test.true i.moved w i.left }
 
 pub returns-clause-lost : goal.returns-clause-lost
 returns-clause-lost c =

@@ -1,6 +1,6 @@
 use Rattle.std.proofs.Common.{◌+◌, set, get_or, refl, sym, ◌∙◌, arith}
 use Rattle.std.proofs.lemmas.List.{length-set}
-use Rattle.image_checks.proofs.Resolving.{moved-below, named-below, kept, unchanged, step-short, step-known, step-leads, step-done}
+use Rattle.image_checks.proofs.Resolving.{told_moved, moved-below, named-below, kept, unchanged, step-short, step-known, step-leads, step-done}
 use Rattle.image_checks.proofs.chains.shorten.Goals as goal
 
 pub steps-init : goal.steps-init
@@ -49,7 +49,7 @@ steps-preserved c =
     let i = c.steps.invariant in
     let new = set c.steps.words (c.steps.at + 1) c.args.end in
     let k = step-known c.args.map.now c.args.starts.now c.args.words.now c.steps.words c.requires.known i.short c.args.s c.steps.at c.args.end i.moved i.leads c.requires.ends c.requires.end in
-    let on = sym (c.is_forwarder.ensures c.args.map.now k.cut k.marked) ∙ c.if-not-is_forwarder.false in
+    let on = told_moved c.args.map.now new c.args.starts.now k c.in-Some.next c.is_forwarder.result c.is_forwarder.ensures ∙ c.if-not-is_forwarder.false in
     record {
       inside = moved-below c.args.map.now new c.args.starts.now k c.in-Some.next on;
       moved = on;

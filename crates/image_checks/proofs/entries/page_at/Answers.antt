@@ -7,10 +7,10 @@ use Rattle.image_checks.proofs.entries.page_at.Goals as goal
 pub returns-in_err-page-clause-page : goal.returns-in_err-page-clause-page
 returns-in_err-page-clause-page c =
     let Page : Option ℕ → Type 0 = HasPage (file_store c.args.map.now c.args.words.now) c.args.place in
-    subst Page (sym c.from_residual.ensures) (no_page c.requires.checked.cut c.args.place c.requires.pages c.requires.within (sym c.named_at.ensures ∙ c.in_err-page.was))
+    subst Page (sym c.from_residual.ensures) (no_page c.requires.cut c.args.place c.requires.pages c.requires.within (sym c.named_at.ensures ∙ c.in_err-page.was))
 
 pub returns-else-page-firsts-clause-room : goal.returns-else-page-firsts-clause-room
 returns-else-page-firsts-clause-room c =
-    let k = c.requires.checked.cut in
+    let k = c.requires.cut in
     page_end k c.args.place c.in_ok-page.page (page_found k c.args.place c.in_ok-page.page c.requires.pages c.requires.within (sym c.named_at.ensures ∙ c.in_ok-page.was)
     (λ nil. c.if-page-firsts.false (nil ∙ sym (c.requires.first.is 0 (omega arith)))))

@@ -1,34 +1,49 @@
-use Rattle.std.proofs.Common.{ℕ, List, take, sym, ◌∙◌, subst}
+use Rattle.std.proofs.Common.{◌≡◌, ℕ, List, length, take, sym, ap, ◌∙◌, subst}
 use Rattle.spur_graph.specs.Segments.{total_words}
 use Rattle.spur_graph.specs.Heaps.{View, Stands}
 use Rattle.spur_graph.specs.LoadedGraph.{loaded_graph, loaded_room}
 use Rattle.spur_graph.specs.FileStores.{file_store}
 use Rattle.image_settle.specs.Rooms.{IsAlone, HasRoom}
+use Rattle.image_load.specs.declared.image.Image.{Image}
+use Rattle.image_load.specs.Images.{IsImageOf, AreSettled}
+use Rattle.image_load.specs.Passes.{AreTried}
 use Rattle.image_load.proofs.Adopting.{tried, image_whole, image_stands}
 use Rattle.image_load.proofs.loader.adopt.Goals as goal
 
+-- the words are those of the image's region, also while it is lent
+still_tried : (bytes : List ℕ) (image : Image) (words : List ℕ) → words ≡ image.bare.region → IsImageOf bytes image → AreTried bytes image.bare.limits image.map (take (total_words image.map) words) image.header.special
+still_tried bytes image words is i =
+    let Tried : List ℕ → Type 0 = λ region. AreTried bytes image.bare.limits image.map (take (total_words image.map) region) image.header.special in
+    subst Tried (sym is) (tried bytes image i)
+
+still_settled : (image : Image) (words : List ℕ) → words ≡ image.bare.region → (front : List ℕ) (word : ℕ) → AreSettled image.map (take (total_words image.map) words) front image.header.special word
+    → AreSettled image.map (take (total_words image.map) image.bare.region) front image.header.special word
+still_settled image words is front word a =
+    let Settled : List ℕ → Type 0 = λ region. AreSettled image.map (take (total_words image.map) region) front image.header.special word in
+    subst Settled is a
+
 pub returns-in-Err-clause-refused : goal.returns-in-Err-clause-refused
-returns-in-Err-clause-refused c bytes i = c.in-Err.ensures.refused bytes c.args.image.bare.limits (tried bytes c.args.image i)
+returns-in-Err-clause-refused c bytes i = c.in-Err.ensures.refused bytes c.args.image.bare.limits (still_tried bytes c.args.image c.region_mut-region.result.now c.region_mut-region.ensures.value i)
 
 pub adopt-requires-clause-whole : goal.adopt-requires-clause-whole
 adopt-requires-clause-whole c =
     let image = c.args.image in
     let front : List ℕ = take (total_words image.map) c.settle_front.new.region in
-    let a = c.in-Ok.ensures.settled in
+    let a = still_settled image c.region_mut-region.result.now c.region_mut-region.ensures.value front c.in-Ok.special c.in-Ok.ensures.settled in
     let h = file_store image.map a.mid in
     let Room : ℕ → Type 0 = λ n. IsAlone h (take n c.settle_front.new.region) → HasRoom h (take n c.settle_front.new.region) c.put_room.new.region image.bare.limits.room in
     let room = subst Room c.words.ensures (c.put_room.ensures.heap h) a.alone in
-    image_whole image c.requires front c.put_room.new.region c.in-Ok.special a room (c.put_room.ensures.same_len ∙ c.in-Ok.ensures.long)
+    image_whole image c.requires front c.put_room.new.region c.in-Ok.special a room (c.put_room.ensures.same_len ∙ c.in-Ok.ensures.long ∙ ap length c.region_mut-region.ensures.value)
 
 pub returns-clause-stands : goal.returns-clause-stands
 returns-clause-stands c bytes i =
     let image = c.args.image in
     let front : List ℕ = take (total_words image.map) c.settle_front.new.region in
-    let a = c.in-Ok.ensures.settled in
+    let a = still_settled image c.region_mut-region.result.now c.region_mut-region.ensures.value front c.in-Ok.special c.in-Ok.ensures.settled in
     let h = file_store image.map a.mid in
     let Room : ℕ → Type 0 = λ n. IsAlone h (take n c.settle_front.new.region) → HasRoom h (take n c.settle_front.new.region) c.put_room.new.region image.bare.limits.room in
     let room = subst Room c.words.ensures (c.put_room.ensures.heap h) a.alone in
     let S : View → Type 0 = λ v. Stands v (loaded_graph bytes) (loaded_room bytes image.bare.limits) in (
-      c.in-Ok.ensures.accepted bytes image.bare.limits (tried bytes image i),
-      subst S (sym c.adopt.ensures) (image_stands image c.requires front c.put_room.new.region c.in-Ok.special a room (c.put_room.ensures.same_len ∙ c.in-Ok.ensures.long) bytes i),
+      c.in-Ok.ensures.accepted bytes image.bare.limits (still_tried bytes image c.region_mut-region.result.now c.region_mut-region.ensures.value i),
+      subst S (sym c.adopt.ensures) (image_stands image c.requires front c.put_room.new.region c.in-Ok.special a room (c.put_room.ensures.same_len ∙ c.in-Ok.ensures.long ∙ ap length c.region_mut-region.ensures.value) bytes i),
     )

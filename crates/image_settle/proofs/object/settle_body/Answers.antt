@@ -13,7 +13,7 @@ overflow_add-to g c =
     let n : IsNext g.h c.args.words.now c.args.header.0 c.args.span.start c.args.span.slots = c.requires.1.1.1 in
     let a : class_of c.args.header.0 ≢ 0 = λ e. c.if-class-eq-FREE_CLASS.false (c.class-class.ensures.value ∙ e) in
     let b : class_of c.args.header.0 ≢ 8 = λ e. c.if-class-eq-FORWARDER_CLASS.false (c.class-class.ensures.value ∙ e) in
-    let k = count_fits g.h c.args.words.now c.args.header.0 c.args.span.start c.args.span.slots n a b c.pointers.result c.pointers.ensures in
+    let k = count_fits g.h c.args.words.now c.args.header.0 c.args.span.start c.args.span.slots n a b c.pointer_slots.result c.pointer_slots.ensures in
     omega (arith, k, n.fits, c.requires.0.small)
 
 pub settle_slots-requires : goal.settle_slots-requires
@@ -21,7 +21,7 @@ settle_slots-requires g c =
     let n : IsNext g.h c.args.words.now c.args.header.0 c.args.span.start c.args.span.slots = c.requires.1.1.1 in
     let a : class_of c.args.header.0 ≢ 0 = λ e. c.if-class-eq-FREE_CLASS.false (c.class-class.ensures.value ∙ e) in
     let b : class_of c.args.header.0 ≢ 8 = λ e. c.if-class-eq-FORWARDER_CLASS.false (c.class-class.ensures.value ∙ e) in
-    let k = count_fits g.h c.args.words.now c.args.header.0 c.args.span.start c.args.span.slots n a b c.pointers.result c.pointers.ensures in
+    let k = count_fits g.h c.args.words.now c.args.header.0 c.args.span.start c.args.span.slots n a b c.pointer_slots.result c.pointer_slots.ensures in
     (c.requires.0, (c.requires.1.0, (c.requires.1.1.0.are 0 (omega arith), (omega arith, (omega (arith, k, n.fits), λ j l m. loose g.h c.args.words.now c.args.header.0 c.args.span.start c.args.span.slots n a b j (omega arith) (omega (arith, k)))))))
 
 pub returns-then-span-firsts-clause-slots : goal.returns-then-span-firsts-clause-slots
@@ -44,11 +44,11 @@ returns-then-span-firsts-2-clause-slots g c = λ j l m.
     let n3 : c.args.span.start ≢ first g.h 3 = λ e. c.if-span-firsts-2.true (e ∙ sym (c.requires.1.1.0.are 3 (omega arith))) in
     let i = j - c.args.span.start - 1 in
     let w = get_or c.args.words.now j 0 in
-    elim (cases_lt i c.pointers.result) [
+    elim (cases_lt i c.pointer_slots.result) [
       | inl in_it ↦ c.settle_slots.ensures.followed j (omega arith) (omega (arith, in_it))
-          ∙ sym (in_front g.h c.args.words.now c.args.header.0 c.args.span.start c.args.span.slots n a b n4 n3 c.pointers.result c.pointers.ensures i w in_it)
+          ∙ sym (in_front g.h c.args.words.now c.args.header.0 c.args.span.start c.args.span.slots n a b n4 n3 c.pointer_slots.result c.pointer_slots.ensures i w in_it)
       | inr past ↦ c.settle_slots.ensures.behind j (omega (arith, past))
-          ∙ sym (in_rest g.h c.args.words.now c.args.header.0 c.args.span.start c.args.span.slots n a b n4 n3 c.pointers.result c.pointers.ensures i w past)
+          ∙ sym (in_rest g.h c.args.words.now c.args.header.0 c.args.span.start c.args.span.slots n a b n4 n3 c.pointer_slots.result c.pointer_slots.ensures i w past)
     ]
 
 pub returns-then-span-firsts-2-clause-behind : goal.returns-then-span-firsts-2-clause-behind
@@ -56,7 +56,7 @@ returns-then-span-firsts-2-clause-behind g c = λ j l.
     let n : IsNext g.h c.args.words.now c.args.header.0 c.args.span.start c.args.span.slots = c.requires.1.1.1 in
     let a : class_of c.args.header.0 ≢ 0 = λ e. c.if-class-eq-FREE_CLASS.false (c.class-class.ensures.value ∙ e) in
     let b : class_of c.args.header.0 ≢ 8 = λ e. c.if-class-eq-FORWARDER_CLASS.false (c.class-class.ensures.value ∙ e) in
-    let k = count_fits g.h c.args.words.now c.args.header.0 c.args.span.start c.args.span.slots n a b c.pointers.result c.pointers.ensures in
+    let k = count_fits g.h c.args.words.now c.args.header.0 c.args.span.start c.args.span.slots n a b c.pointer_slots.result c.pointer_slots.ensures in
     c.settle_slots.ensures.behind j (omega (arith, k))
 
 pub returns-then-span-firsts-clause-leads : goal.returns-then-span-firsts-clause-leads

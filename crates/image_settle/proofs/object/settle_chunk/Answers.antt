@@ -13,7 +13,7 @@ settle_body-requires g c =
     let start = c.args.span.start in
     let w = c.cleared.result.0 in
     let n : IsNext g.h words (get_or words start 0) start c.args.span.slots = c.requires.1.1.1 in
-    let class : class_of w ≡ class_of (get_or words start 0) = ap (λ (f : Fields). f.class) c.cleared.ensures in
+    let class : class_of w ≡ class_of (get_or words start 0) = ap (λ (f : Fields). f.class) c.cleared.ensures.fields in
     let leads = header_written g.h c.args.map.now c.args.starts.now words c.requires.0 start w (omega (arith, n.below)) class n.apart in
     (leads, (c.requires.1.0, (c.requires.1.1.0, next_written g.h words (get_or words start 0) start c.args.span.slots w n)))
 

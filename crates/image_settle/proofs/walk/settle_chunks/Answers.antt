@@ -1,23 +1,24 @@
 use Rattle.std.proofs.Common.{◌<◌, length, sym, subst, arith, get_or}
 use Rattle.spur_graph.specs.Chunks.{chunks}
-use Rattle.image_settle.specs.Settles.{Leads, HasOrdinary, AreFirsts, IsNext, IsCleared}
+use Rattle.image_references.specs.References.{HasOrdinary}
+use Rattle.image_settle.specs.Settles.{Follows, AreFirsts, IsNext, IsCleared}
 use Rattle.image_settle.proofs.Walking.{walk_starts, walk_ends}
-use Rattle.image_settle.proofs.Ready.{ready_leads, ready_ordinary, next_span}
+use Rattle.image_settle.proofs.Ready.{ready_follows, ready_ordinary, next_span}
 use Rattle.image_settle.proofs.Steps.{Spans, Settles, settles_step, span_fits}
 use Rattle.image_settle.proofs.walk.settle_chunks.Goals as goal
 
 pub chunks-init : goal.chunks-init
 chunks-init g c = record {
-  leads = subst (λ h. Leads h c.args.map.now c.args.starts.now c.args.words.now) (sym c.requires.1)
-      (ready_leads c.args.map.now c.args.starts.now c.args.ordinary.now c.args.firsts.now c.args.words.now c.requires.0);
+  leads = subst (λ h. Follows h c.args.map.now c.args.starts.now c.args.words.now) (sym c.requires.1)
+      (ready_follows c.args.map.now c.args.starts.now c.args.ordinary.now c.args.firsts.now c.args.words.now c.requires.0);
   walking = walk_starts (λ d j w. IsCleared g.h c.args.words.now d j w) c.args.words.now (chunks c.args.words.now) c.requires.0.cut;
 }
 
 pub settle_chunk-requires : goal.settle_chunk-requires
 settle_chunk-requires g c =
     let i = c.chunks.invariant in
-    let span = c.span_at-span.result in
-    let s : Spans c.chunks.words c.chunks.at span.start span.slots span.end = record { start_is = c.span_at-span.ensures.start; slots_is = c.span_at-span.ensures.slots; end_is = c.span_at-span.ensures.end } in
+    let span = c.span_of-span.result in
+    let s : Spans c.chunks.words c.chunks.at span.start span.slots span.end = record { start_is = c.span_of-span.ensures.start; slots_is = c.span_of-span.ensures.slots; end_is = c.span_of-span.ensures.end } in
     let low : c.chunks.at < length c.args.words.now = omega (arith, i.walking.long) in (
       i.leads,
       (
@@ -33,8 +34,8 @@ settle_chunk-requires g c =
 pub chunks-smaller : goal.chunks-smaller
 chunks-smaller g c =
     let i = c.chunks.invariant in
-    let span = c.span_at-span.result in
-    let s : Spans c.chunks.words c.chunks.at span.start span.slots span.end = record { start_is = c.span_at-span.ensures.start; slots_is = c.span_at-span.ensures.slots; end_is = c.span_at-span.ensures.end } in
+    let span = c.span_of-span.result in
+    let s : Spans c.chunks.words c.chunks.at span.start span.slots span.end = record { start_is = c.span_of-span.ensures.start; slots_is = c.span_of-span.ensures.slots; end_is = c.span_of-span.ensures.end } in
     let low : c.chunks.at < length c.args.words.now = omega (arith, i.walking.long) in
     let f = span_fits (λ d j w. IsCleared g.h c.args.words.now d j w) c.args.words.now (chunks c.args.words.now) c.chunks.words c.chunks.at span.start span.slots span.end i.walking low s in
     omega (arith, f.ahead, c.settle_chunk.ensures.same_len, c.chunks-test.true)
@@ -42,10 +43,10 @@ chunks-smaller g c =
 pub chunks-preserved : goal.chunks-preserved
 chunks-preserved g c =
     let i = c.chunks.invariant in
-    let span = c.span_at-span.result in
-    let s : Spans c.chunks.words c.chunks.at span.start span.slots span.end = record { start_is = c.span_at-span.ensures.start; slots_is = c.span_at-span.ensures.slots; end_is = c.span_at-span.ensures.end } in
+    let span = c.span_of-span.result in
+    let s : Spans c.chunks.words c.chunks.at span.start span.slots span.end = record { start_is = c.span_of-span.ensures.start; slots_is = c.span_of-span.ensures.slots; end_is = c.span_of-span.ensures.end } in
     let e = c.settle_chunk.ensures in
-    let k : Settles g.h c.chunks.words c.settle_chunk.new.words span.start span.slots = record { same_len = e.same_len; header = e.header; slots_are = e.slots; before = e.before; behind = e.behind } in
+    let k : Settles g.h c.chunks.words c.settle_chunk.new.words span.start span.slots = record { same_len = e.same_len; header = e.header; unused = e.unused; slots_are = e.slots; before = e.before; behind = e.behind } in
     let low : c.chunks.at < length c.args.words.now = omega (arith, i.walking.long) in
     record {
       leads = e.leads;

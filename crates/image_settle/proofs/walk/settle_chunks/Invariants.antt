@@ -1,6 +1,6 @@
 use Rattle.std.proofs.Common.{◌-◌, length}
 use Rattle.spur_graph.specs.Chunks.{chunks}
-use Rattle.image_settle.specs.Settles.{Leads, IsCleared}
+use Rattle.image_settle.specs.Settles.{Follows, IsCleared}
 use Rattle.image_settle.proofs.Walking.{Walking}
 use Rattle.image_settle.proofs.walk.settle_chunks.Given as goal
 
@@ -9,7 +9,7 @@ ghost-settle_chunk g a = g.h
 
 abbrev pub invariant-chunks : goal.invariant-chunks
 invariant-chunks g l = record {
-  leads : Leads g.h l.map l.starts l.words;
+  leads : Follows g.h l.map l.starts l.words;
   walking : Walking (λ c j w. IsCleared g.h l.fn.words c j w) l.fn.words l.words (chunks l.fn.words) l.at;
 }
 

@@ -22,21 +22,21 @@ returns-in-Nil-clause-done c =
     let v = c.args.heap.now in
     rw (c.in-Nil.is)
     (binds v c.bind_word-in-Nil.new.heap c.args.mutator c.in-Nil.h.bytes (value_in v c.nil.result) (Ref (graph_of v).nil) (Nil c.in-Nil.h.bytes) c.bind_word-in-Nil.result (λ files script. refl)
-    (root_value v c.whole.ensures 0 c.nil.result (omega arith) c.nil.ensures.word ∙ ap (λ a. Ref a) (sym (nil_named v))) c.bind_word-in-Nil.ensures.bound)
+    (root_value v c.whole.ensures.whole 0 c.nil.result (omega arith) c.nil.ensures.word ∙ ap (λ a. Ref a) (sym (nil_named v))) c.bind_word-in-Nil.ensures.bound)
 
 pub returns-in-Yes-clause-done : goal.returns-in-Yes-clause-done
 returns-in-Yes-clause-done c =
     let v = c.args.heap.now in
     rw (c.in-Yes.is)
     (binds v c.bind_word-in-Yes.new.heap c.args.mutator c.in-Yes.h.bytes (value_in v c.yes.result) (Ref (graph_of v).yes) (Yes c.in-Yes.h.bytes) c.bind_word-in-Yes.result (λ files script. refl)
-    (root_value v c.whole.ensures 2 c.yes.result (omega arith) c.yes.ensures.word ∙ ap (λ a. Ref a) (sym (yes_named v))) c.bind_word-in-Yes.ensures.bound)
+    (root_value v c.whole.ensures.whole 2 c.yes.result (omega arith) c.yes.ensures.word ∙ ap (λ a. Ref a) (sym (yes_named v))) c.bind_word-in-Yes.ensures.bound)
 
 pub returns-in-No-clause-done : goal.returns-in-No-clause-done
 returns-in-No-clause-done c =
     let v = c.args.heap.now in
     rw (c.in-No.is)
     (binds v c.bind_word-in-No.new.heap c.args.mutator c.in-No.h.bytes (value_in v c.no.result) (Ref (graph_of v).no) (No c.in-No.h.bytes) c.bind_word-in-No.result (λ files script. refl)
-    (root_value v c.whole.ensures 1 c.no.result (omega arith) c.no.ensures.word ∙ ap (λ a. Ref a) (sym (no_named v))) c.bind_word-in-No.ensures.bound)
+    (root_value v c.whole.ensures.whole 1 c.no.result (omega arith) c.no.ensures.word ∙ ap (λ a. Ref a) (sym (no_named v))) c.bind_word-in-No.ensures.bound)
 
 pub returns-in-Int-clause-refusal : goal.returns-in-Int-clause-refusal
 returns-in-Int-clause-refusal c = λ files script.

@@ -13,6 +13,6 @@ use Rattle.replay.proofs.objects.class.Goals as goal
 pub returns-clause-class : goal.returns-clause-class
 returns-clause-class c =
     let v = c.args.heap.now in
-    class_there v c.whole.ensures c.class_index.result c.class_index.ensures.index c.class_at.result c.class_at.ensures.class
+    class_there v c.whole.ensures.whole c.class_index.result c.class_index.ensures.index c.class_at.result c.class_at.ensures.class
     ∙ ap (λ i. unwrap_or (get (graph_of v).classes i) (Ref (first (store v) 0))) c.class_index.ensures.class
     ∙ ap (λ a. unwrap_or (get (graph_of v).classes (class_index (graph_of v) (value_in v c.args.word))) (Ref a)) (sym (nil_named v))

@@ -1,8 +1,9 @@
 use Rattle.std.proofs.Common.{ℕ, arith, ◌/◌}
 use Rattle.spur_graph.specs.Cells.{final}
 use Rattle.spur_graph.specs.Heaps.{heap_store}
+use Rattle.heap_cells.proofs.CellKinds.{there_starts}
 use Rattle.heap_cells.proofs.References.{ordinary_there}
-use Rattle.spur_heap.proofs.Hops.{reference_named, start_at, there_starts}
+use Rattle.spur_heap.proofs.Hops.{reference_named, start_at}
 use Rattle.spur_heap.proofs.Following.{good_reference, leads}
 use Rattle.spur_heap.proofs.chains.follow_word.Goals as goal
 

@@ -4,4 +4,4 @@ use Rattle.spur_heap.proofs.places.mark_starts.Goals as goal
 
 pub returns-clause-map : goal.returns-clause-map
 returns-clause-map c s =
-    marks_all c.args.words.now c.requires.sound c.chunks.at (omega (arith, c.chunks-test.false, c.len-end.ensures)) c.chunks.starts c.chunks.invariant.below s
+    marks_all c.args.words.now c.requires.sound c.chunks.at (omega (arith, c.chunks-test.false)) c.chunks.starts c.chunks.invariant.below s

@@ -1,10 +1,10 @@
 use Rattle.std.proofs.Common.{◌*◌, ◌<◌, ◌^◌, ap, sym, ◌∙◌, subst, arith}
 use Rattle.object_header.specs.Formats.{unit_bytes_of}
-use Rattle.spur_heap.proofs.SlotCounts.{below, place_inside, place_small, place_made}
+use Rattle.spur_heap.proofs.SlotCounts.{at_start, place_inside, place_small, place_made}
 use Rattle.spur_heap.proofs.slots.unit_place_of.Goals as goal
 
 pub overflow_add-result : goal.overflow_add-result
-overflow_add-result c = let few = c.requires.sound.few in omega (arith, below c.args.words.now c.requires.sound c.args.start c.requires.there, few)
+overflow_add-result c = let few = c.requires.sound.few in omega (arith, (at_start c.args.words.now c.requires.sound c.args.start c.requires.there).below, few)
 
 pub overflow_add-result-2 : goal.overflow_add-result-2
 overflow_add-result-2 c =

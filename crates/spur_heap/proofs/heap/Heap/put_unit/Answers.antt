@@ -14,27 +14,30 @@ use Rattle.spur_heap.proofs.heap.Heap.put_unit.Goals as goal
 pub unit_place_of-at-requires-clause-within : goal.unit_place_of-at-requires-clause-within
 unit_place_of-at-requires-clause-within c =
     let whole : IsWhole c.args.self.now = subst (λ (v : View). IsWhole v) c.self.view_is c.self.invariant.whole in
-    subst (λ (v : View). c.args.i < unit_count (body_in v.words c.args.start)) (sym c.self.view_is) (omega (arith, c.requires.within, units_count c.args.self.now whole c.args.start c.requires.there))
+    let words : c.as_slice-words.result.now ≡ c.args.self.now.words = c.as_slice-words.ensures ∙ ap (λ (v : View). v.words) c.self.view_is in
+    subst (λ ws. c.args.i < unit_count (body_in ws c.args.start)) (sym words) (omega (arith, c.requires.within, units_count c.args.self.now whole c.args.start c.requires.there))
 
 pub with_unit-requires-clause-size : goal.with_unit-requires-clause-size
 with_unit-requires-clause-size c =
     let whole : IsWhole c.args.self.now = subst (λ (v : View). IsWhole v) c.self.view_is c.self.invariant.whole in
-    let bytes : c.unit_bytes-bytes.result ≡ unit_bytes_in c.args.self.now.words c.args.start = c.unit_bytes-bytes.ensures ∙ ap unit_bytes_of (subst (λ (v : View). c.format_of.result ≡ (body_in v.words c.args.start).format) c.self.view_is c.format_of.ensures) in
+    let words : c.as_slice-words.result.now ≡ c.args.self.now.words = c.as_slice-words.ensures ∙ ap (λ (v : View). v.words) c.self.view_is in
+    let bytes : c.unit_bytes-bytes.result ≡ unit_bytes_in c.args.self.now.words c.args.start = c.unit_bytes-bytes.ensures ∙ ap unit_bytes_of (c.format_of.ensures ∙ ap (λ ws. (body_in ws c.args.start).format) words) in
     subst (λ n. IsSize n) (sym bytes) (unit_size c.args.self.now whole c.args.start c.requires.there c.args.i c.requires.within)
 
 pub with_unit-requires-clause-fits : goal.with_unit-requires-clause-fits
 with_unit-requires-clause-fits c =
     let whole : IsWhole c.args.self.now = subst (λ (v : View). IsWhole v) c.self.view_is c.self.invariant.whole in
-    let bytes : c.unit_bytes-bytes.result ≡ unit_bytes_in c.args.self.now.words c.args.start = c.unit_bytes-bytes.ensures ∙ ap unit_bytes_of (subst (λ (v : View). c.format_of.result ≡ (body_in v.words c.args.start).format) c.self.view_is c.format_of.ensures) in
+    let words : c.as_slice-words.result.now ≡ c.args.self.now.words = c.as_slice-words.ensures ∙ ap (λ (v : View). v.words) c.self.view_is in
+    let bytes : c.unit_bytes-bytes.result ≡ unit_bytes_in c.args.self.now.words c.args.start = c.unit_bytes-bytes.ensures ∙ ap unit_bytes_of (c.format_of.ensures ∙ ap (λ ws. (body_in ws c.args.start).format) words) in
     subst (λ n. c.args.value < 2 ^ (8 * n)) (sym (bytes ∙ ap unit_bytes_of (sym (fields_are c.args.self.now whole c.args.start c.requires.there).format))) c.requires.range
 
 pub invariant_of-self : goal.invariant_of-self
 invariant_of-self c =
     let whole : IsWhole c.args.self.now = subst (λ (v : View). IsWhole v) c.self.view_is c.self.invariant.whole in
-    let bytes : c.unit_bytes-bytes.result ≡ unit_bytes_in c.args.self.now.words c.args.start = c.unit_bytes-bytes.ensures ∙ ap unit_bytes_of (subst (λ (v : View). c.format_of.result ≡ (body_in v.words c.args.start).format) c.self.view_is c.format_of.ensures) in
-    let at : c.unit_place_of-at.result ≡ unit_place c.args.self.now.words c.args.start c.args.i = subst (λ (v : View). c.unit_place_of-at.result ≡ unit_place v.words c.args.start c.args.i) c.self.view_is c.unit_place_of-at.ensures.place in
-    let word : c.get-word.result ≡ get_or c.args.self.now.words (unit_place c.args.self.now.words c.args.start c.args.i) 0 = c.get-word.ensures ∙ (λ x. get_or (c.self.view_is x).words (at x) 0) in
-    let unit : c.with_unit.result ≡ unit_word c.args.self.now.words c.args.start c.args.i c.args.value = c.with_unit.ensures ∙ (λ x. with_field (8 * (c.args.i * bytes x % 8)) (8 * bytes x) (word x) c.args.value) in
+    let words : c.as_slice-words.result.now ≡ c.args.self.now.words = c.as_slice-words.ensures ∙ ap (λ (v : View). v.words) c.self.view_is in
+    let bytes : c.unit_bytes-bytes.result ≡ unit_bytes_in c.args.self.now.words c.args.start = c.unit_bytes-bytes.ensures ∙ ap unit_bytes_of (c.format_of.ensures ∙ ap (λ ws. (body_in ws c.args.start).format) words) in
+    let at : c.unit_place_of-at.result ≡ unit_place c.args.self.now.words c.args.start c.args.i = c.unit_place_of-at.ensures.place ∙ ap (λ ws. unit_place ws c.args.start c.args.i) words in
+    let unit : c.with_unit.result ≡ unit_word c.args.self.now.words c.args.start c.args.i c.args.value = c.with_unit.ensures ∙ (λ x. with_field (8 * (c.args.i * bytes x % 8)) (8 * bytes x) (get_or (words x) (at x) 0) c.args.value) in
     let n : ℕ = pointer_count (body_in c.args.self.now.words c.args.start) + c.args.i * unit_bytes_in c.args.self.now.words c.args.start / 8 in
     let w : ℕ = unit_word c.args.self.now.words c.args.start c.args.i c.args.value in
     let place : c.unit_place_of-at.result ≡ c.args.start + 1 + n = omega (arith, at) in
@@ -45,10 +48,10 @@ invariant_of-self c =
 pub returns-clause-written : goal.returns-clause-written
 returns-clause-written c =
     let whole : IsWhole c.args.self.now = subst (λ (v : View). IsWhole v) c.self.view_is c.self.invariant.whole in
-    let bytes : c.unit_bytes-bytes.result ≡ unit_bytes_in c.args.self.now.words c.args.start = c.unit_bytes-bytes.ensures ∙ ap unit_bytes_of (subst (λ (v : View). c.format_of.result ≡ (body_in v.words c.args.start).format) c.self.view_is c.format_of.ensures) in
-    let at : c.unit_place_of-at.result ≡ unit_place c.args.self.now.words c.args.start c.args.i = subst (λ (v : View). c.unit_place_of-at.result ≡ unit_place v.words c.args.start c.args.i) c.self.view_is c.unit_place_of-at.ensures.place in
-    let word : c.get-word.result ≡ get_or c.args.self.now.words (unit_place c.args.self.now.words c.args.start c.args.i) 0 = c.get-word.ensures ∙ (λ x. get_or (c.self.view_is x).words (at x) 0) in
-    let unit : c.with_unit.result ≡ unit_word c.args.self.now.words c.args.start c.args.i c.args.value = c.with_unit.ensures ∙ (λ x. with_field (8 * (c.args.i * bytes x % 8)) (8 * bytes x) (word x) c.args.value) in
+    let words : c.as_slice-words.result.now ≡ c.args.self.now.words = c.as_slice-words.ensures ∙ ap (λ (v : View). v.words) c.self.view_is in
+    let bytes : c.unit_bytes-bytes.result ≡ unit_bytes_in c.args.self.now.words c.args.start = c.unit_bytes-bytes.ensures ∙ ap unit_bytes_of (c.format_of.ensures ∙ ap (λ ws. (body_in ws c.args.start).format) words) in
+    let at : c.unit_place_of-at.result ≡ unit_place c.args.self.now.words c.args.start c.args.i = c.unit_place_of-at.ensures.place ∙ ap (λ ws. unit_place ws c.args.start c.args.i) words in
+    let unit : c.with_unit.result ≡ unit_word c.args.self.now.words c.args.start c.args.i c.args.value = c.with_unit.ensures ∙ (λ x. with_field (8 * (c.args.i * bytes x % 8)) (8 * bytes x) (get_or (words x) (at x) 0) c.args.value) in
     let n : ℕ = pointer_count (body_in c.args.self.now.words c.args.start) + c.args.i * unit_bytes_in c.args.self.now.words c.args.start / 8 in
     let w : ℕ = unit_word c.args.self.now.words c.args.start c.args.i c.args.value in
     let place : c.unit_place_of-at.result ≡ c.args.start + 1 + n = omega (arith, at) in
@@ -61,10 +64,10 @@ returns-clause-written c =
 pub returns-clause-graph : goal.returns-clause-graph
 returns-clause-graph c =
     let whole : IsWhole c.args.self.now = subst (λ (v : View). IsWhole v) c.self.view_is c.self.invariant.whole in
-    let bytes : c.unit_bytes-bytes.result ≡ unit_bytes_in c.args.self.now.words c.args.start = c.unit_bytes-bytes.ensures ∙ ap unit_bytes_of (subst (λ (v : View). c.format_of.result ≡ (body_in v.words c.args.start).format) c.self.view_is c.format_of.ensures) in
-    let at : c.unit_place_of-at.result ≡ unit_place c.args.self.now.words c.args.start c.args.i = subst (λ (v : View). c.unit_place_of-at.result ≡ unit_place v.words c.args.start c.args.i) c.self.view_is c.unit_place_of-at.ensures.place in
-    let word : c.get-word.result ≡ get_or c.args.self.now.words (unit_place c.args.self.now.words c.args.start c.args.i) 0 = c.get-word.ensures ∙ (λ x. get_or (c.self.view_is x).words (at x) 0) in
-    let unit : c.with_unit.result ≡ unit_word c.args.self.now.words c.args.start c.args.i c.args.value = c.with_unit.ensures ∙ (λ x. with_field (8 * (c.args.i * bytes x % 8)) (8 * bytes x) (word x) c.args.value) in
+    let words : c.as_slice-words.result.now ≡ c.args.self.now.words = c.as_slice-words.ensures ∙ ap (λ (v : View). v.words) c.self.view_is in
+    let bytes : c.unit_bytes-bytes.result ≡ unit_bytes_in c.args.self.now.words c.args.start = c.unit_bytes-bytes.ensures ∙ ap unit_bytes_of (c.format_of.ensures ∙ ap (λ ws. (body_in ws c.args.start).format) words) in
+    let at : c.unit_place_of-at.result ≡ unit_place c.args.self.now.words c.args.start c.args.i = c.unit_place_of-at.ensures.place ∙ ap (λ ws. unit_place ws c.args.start c.args.i) words in
+    let unit : c.with_unit.result ≡ unit_word c.args.self.now.words c.args.start c.args.i c.args.value = c.with_unit.ensures ∙ (λ x. with_field (8 * (c.args.i * bytes x % 8)) (8 * bytes x) (get_or (words x) (at x) 0) c.args.value) in
     let n : ℕ = pointer_count (body_in c.args.self.now.words c.args.start) + c.args.i * unit_bytes_in c.args.self.now.words c.args.start / 8 in
     let w : ℕ = unit_word c.args.self.now.words c.args.start c.args.i c.args.value in
     let place : c.unit_place_of-at.result ≡ c.args.start + 1 + n = omega (arith, at) in
@@ -77,10 +80,10 @@ returns-clause-graph c =
 pub returns-clause-room : goal.returns-clause-room
 returns-clause-room c =
     let whole : IsWhole c.args.self.now = subst (λ (v : View). IsWhole v) c.self.view_is c.self.invariant.whole in
-    let bytes : c.unit_bytes-bytes.result ≡ unit_bytes_in c.args.self.now.words c.args.start = c.unit_bytes-bytes.ensures ∙ ap unit_bytes_of (subst (λ (v : View). c.format_of.result ≡ (body_in v.words c.args.start).format) c.self.view_is c.format_of.ensures) in
-    let at : c.unit_place_of-at.result ≡ unit_place c.args.self.now.words c.args.start c.args.i = subst (λ (v : View). c.unit_place_of-at.result ≡ unit_place v.words c.args.start c.args.i) c.self.view_is c.unit_place_of-at.ensures.place in
-    let word : c.get-word.result ≡ get_or c.args.self.now.words (unit_place c.args.self.now.words c.args.start c.args.i) 0 = c.get-word.ensures ∙ (λ x. get_or (c.self.view_is x).words (at x) 0) in
-    let unit : c.with_unit.result ≡ unit_word c.args.self.now.words c.args.start c.args.i c.args.value = c.with_unit.ensures ∙ (λ x. with_field (8 * (c.args.i * bytes x % 8)) (8 * bytes x) (word x) c.args.value) in
+    let words : c.as_slice-words.result.now ≡ c.args.self.now.words = c.as_slice-words.ensures ∙ ap (λ (v : View). v.words) c.self.view_is in
+    let bytes : c.unit_bytes-bytes.result ≡ unit_bytes_in c.args.self.now.words c.args.start = c.unit_bytes-bytes.ensures ∙ ap unit_bytes_of (c.format_of.ensures ∙ ap (λ ws. (body_in ws c.args.start).format) words) in
+    let at : c.unit_place_of-at.result ≡ unit_place c.args.self.now.words c.args.start c.args.i = c.unit_place_of-at.ensures.place ∙ ap (λ ws. unit_place ws c.args.start c.args.i) words in
+    let unit : c.with_unit.result ≡ unit_word c.args.self.now.words c.args.start c.args.i c.args.value = c.with_unit.ensures ∙ (λ x. with_field (8 * (c.args.i * bytes x % 8)) (8 * bytes x) (get_or (words x) (at x) 0) c.args.value) in
     let n : ℕ = pointer_count (body_in c.args.self.now.words c.args.start) + c.args.i * unit_bytes_in c.args.self.now.words c.args.start / 8 in
     let w : ℕ = unit_word c.args.self.now.words c.args.start c.args.i c.args.value in
     let place : c.unit_place_of-at.result ≡ c.args.start + 1 + n = omega (arith, at) in
@@ -92,10 +95,10 @@ returns-clause-room c =
 pub returns-clause-values : goal.returns-clause-values
 returns-clause-values c u =
     let whole : IsWhole c.args.self.now = subst (λ (v : View). IsWhole v) c.self.view_is c.self.invariant.whole in
-    let bytes : c.unit_bytes-bytes.result ≡ unit_bytes_in c.args.self.now.words c.args.start = c.unit_bytes-bytes.ensures ∙ ap unit_bytes_of (subst (λ (v : View). c.format_of.result ≡ (body_in v.words c.args.start).format) c.self.view_is c.format_of.ensures) in
-    let at : c.unit_place_of-at.result ≡ unit_place c.args.self.now.words c.args.start c.args.i = subst (λ (v : View). c.unit_place_of-at.result ≡ unit_place v.words c.args.start c.args.i) c.self.view_is c.unit_place_of-at.ensures.place in
-    let word : c.get-word.result ≡ get_or c.args.self.now.words (unit_place c.args.self.now.words c.args.start c.args.i) 0 = c.get-word.ensures ∙ (λ x. get_or (c.self.view_is x).words (at x) 0) in
-    let unit : c.with_unit.result ≡ unit_word c.args.self.now.words c.args.start c.args.i c.args.value = c.with_unit.ensures ∙ (λ x. with_field (8 * (c.args.i * bytes x % 8)) (8 * bytes x) (word x) c.args.value) in
+    let words : c.as_slice-words.result.now ≡ c.args.self.now.words = c.as_slice-words.ensures ∙ ap (λ (v : View). v.words) c.self.view_is in
+    let bytes : c.unit_bytes-bytes.result ≡ unit_bytes_in c.args.self.now.words c.args.start = c.unit_bytes-bytes.ensures ∙ ap unit_bytes_of (c.format_of.ensures ∙ ap (λ ws. (body_in ws c.args.start).format) words) in
+    let at : c.unit_place_of-at.result ≡ unit_place c.args.self.now.words c.args.start c.args.i = c.unit_place_of-at.ensures.place ∙ ap (λ ws. unit_place ws c.args.start c.args.i) words in
+    let unit : c.with_unit.result ≡ unit_word c.args.self.now.words c.args.start c.args.i c.args.value = c.with_unit.ensures ∙ (λ x. with_field (8 * (c.args.i * bytes x % 8)) (8 * bytes x) (get_or (words x) (at x) 0) c.args.value) in
     let n : ℕ = pointer_count (body_in c.args.self.now.words c.args.start) + c.args.i * unit_bytes_in c.args.self.now.words c.args.start / 8 in
     let w : ℕ = unit_word c.args.self.now.words c.args.start c.args.i c.args.value in
     let place : c.unit_place_of-at.result ≡ c.args.start + 1 + n = omega (arith, at) in
@@ -107,10 +110,10 @@ returns-clause-values c u =
 pub returns-clause-goods : goal.returns-clause-goods
 returns-clause-goods c u good =
     let whole : IsWhole c.args.self.now = subst (λ (v : View). IsWhole v) c.self.view_is c.self.invariant.whole in
-    let bytes : c.unit_bytes-bytes.result ≡ unit_bytes_in c.args.self.now.words c.args.start = c.unit_bytes-bytes.ensures ∙ ap unit_bytes_of (subst (λ (v : View). c.format_of.result ≡ (body_in v.words c.args.start).format) c.self.view_is c.format_of.ensures) in
-    let at : c.unit_place_of-at.result ≡ unit_place c.args.self.now.words c.args.start c.args.i = subst (λ (v : View). c.unit_place_of-at.result ≡ unit_place v.words c.args.start c.args.i) c.self.view_is c.unit_place_of-at.ensures.place in
-    let word : c.get-word.result ≡ get_or c.args.self.now.words (unit_place c.args.self.now.words c.args.start c.args.i) 0 = c.get-word.ensures ∙ (λ x. get_or (c.self.view_is x).words (at x) 0) in
-    let unit : c.with_unit.result ≡ unit_word c.args.self.now.words c.args.start c.args.i c.args.value = c.with_unit.ensures ∙ (λ x. with_field (8 * (c.args.i * bytes x % 8)) (8 * bytes x) (word x) c.args.value) in
+    let words : c.as_slice-words.result.now ≡ c.args.self.now.words = c.as_slice-words.ensures ∙ ap (λ (v : View). v.words) c.self.view_is in
+    let bytes : c.unit_bytes-bytes.result ≡ unit_bytes_in c.args.self.now.words c.args.start = c.unit_bytes-bytes.ensures ∙ ap unit_bytes_of (c.format_of.ensures ∙ ap (λ ws. (body_in ws c.args.start).format) words) in
+    let at : c.unit_place_of-at.result ≡ unit_place c.args.self.now.words c.args.start c.args.i = c.unit_place_of-at.ensures.place ∙ ap (λ ws. unit_place ws c.args.start c.args.i) words in
+    let unit : c.with_unit.result ≡ unit_word c.args.self.now.words c.args.start c.args.i c.args.value = c.with_unit.ensures ∙ (λ x. with_field (8 * (c.args.i * bytes x % 8)) (8 * bytes x) (get_or (words x) (at x) 0) c.args.value) in
     let n : ℕ = pointer_count (body_in c.args.self.now.words c.args.start) + c.args.i * unit_bytes_in c.args.self.now.words c.args.start / 8 in
     let w : ℕ = unit_word c.args.self.now.words c.args.start c.args.i c.args.value in
     let place : c.unit_place_of-at.result ≡ c.args.start + 1 + n = omega (arith, at) in
@@ -122,10 +125,10 @@ returns-clause-goods c u good =
 pub returns-clause-ordinary : goal.returns-clause-ordinary
 returns-clause-ordinary c t there =
     let whole : IsWhole c.args.self.now = subst (λ (v : View). IsWhole v) c.self.view_is c.self.invariant.whole in
-    let bytes : c.unit_bytes-bytes.result ≡ unit_bytes_in c.args.self.now.words c.args.start = c.unit_bytes-bytes.ensures ∙ ap unit_bytes_of (subst (λ (v : View). c.format_of.result ≡ (body_in v.words c.args.start).format) c.self.view_is c.format_of.ensures) in
-    let at : c.unit_place_of-at.result ≡ unit_place c.args.self.now.words c.args.start c.args.i = subst (λ (v : View). c.unit_place_of-at.result ≡ unit_place v.words c.args.start c.args.i) c.self.view_is c.unit_place_of-at.ensures.place in
-    let word : c.get-word.result ≡ get_or c.args.self.now.words (unit_place c.args.self.now.words c.args.start c.args.i) 0 = c.get-word.ensures ∙ (λ x. get_or (c.self.view_is x).words (at x) 0) in
-    let unit : c.with_unit.result ≡ unit_word c.args.self.now.words c.args.start c.args.i c.args.value = c.with_unit.ensures ∙ (λ x. with_field (8 * (c.args.i * bytes x % 8)) (8 * bytes x) (word x) c.args.value) in
+    let words : c.as_slice-words.result.now ≡ c.args.self.now.words = c.as_slice-words.ensures ∙ ap (λ (v : View). v.words) c.self.view_is in
+    let bytes : c.unit_bytes-bytes.result ≡ unit_bytes_in c.args.self.now.words c.args.start = c.unit_bytes-bytes.ensures ∙ ap unit_bytes_of (c.format_of.ensures ∙ ap (λ ws. (body_in ws c.args.start).format) words) in
+    let at : c.unit_place_of-at.result ≡ unit_place c.args.self.now.words c.args.start c.args.i = c.unit_place_of-at.ensures.place ∙ ap (λ ws. unit_place ws c.args.start c.args.i) words in
+    let unit : c.with_unit.result ≡ unit_word c.args.self.now.words c.args.start c.args.i c.args.value = c.with_unit.ensures ∙ (λ x. with_field (8 * (c.args.i * bytes x % 8)) (8 * bytes x) (get_or (words x) (at x) 0) c.args.value) in
     let n : ℕ = pointer_count (body_in c.args.self.now.words c.args.start) + c.args.i * unit_bytes_in c.args.self.now.words c.args.start / 8 in
     let w : ℕ = unit_word c.args.self.now.words c.args.start c.args.i c.args.value in
     let place : c.unit_place_of-at.result ≡ c.args.start + 1 + n = omega (arith, at) in

@@ -8,5 +8,6 @@ use Rattle.spur_heap.proofs.heap.Heap.unit_bytes.Goals as goal
 pub returns : goal.returns
 returns c =
     let whole : IsWhole c.args.self.now = subst (λ (v : View). IsWhole v) c.self.view_is c.self.invariant.whole in
-    c.unit_bytes.ensures ∙ ap unit_bytes_of (subst (λ (v : View). c.format_of.result ≡ (body_in v.words c.args.start).format) c.self.view_is c.format_of.ensures
+    let words : c.as_slice.result.now ≡ c.args.self.now.words = c.as_slice.ensures ∙ ap (λ (v : View). v.words) c.self.view_is in
+    c.unit_bytes.ensures ∙ ap unit_bytes_of (c.format_of.ensures ∙ ap (λ ws. (body_in ws c.args.start).format) words
     ∙ sym (fields_are c.args.self.now whole c.args.start c.requires.there).format)

@@ -1,0 +1,26 @@
+-- What the words and the maps of an image tell of where its references lead.
+use Rattle.std.specs.Prelude.{ℕ, ◌≡◌, ◌+◌, ◌<◌, List, length, slice_index, true, nat_eq}
+use Rattle.object_header.specs.Head.{class_of}
+use Rattle.object_header.specs.declared.header.TheConstants.{FORWARDER_CLASS}
+use Rattle.heap_walk.specs.declared.starts.StartMap.{StartMap}
+use Rattle.heap_walk.specs.Starts.{has_start, covered}
+use Rattle.spur_graph.specs.Segments.{Segment, word_in}
+use Rattle.spur_graph.specs.Cells.{Moved, Store, start_named, is_start, is_moved, is_there, target_of}
+use Rattle.spur_graph.specs.Ordinary.{is_ordinary}
+
+-- the words tell where those of a store lead, though other words than headers and those of forwarders may be written already: the map has the starts
+-- of objects and forwarders, and each forwarder names the object to which it leads
+pub record Leads (h : Store) (segs : List Segment) (start_map : StartMap) (words : List ℕ) : Type 0 where
+  pub to : (w : ℕ) → h.to w ≡ word_in segs 0 w
+  pub names : h.names ≡ length words
+  pub inside : (s : ℕ) → is_start (h.cell s) ≡ true → s + 1 < h.names
+  pub starts : (s : ℕ) → has_start start_map s ≡ is_start (h.cell s)
+  pub covers : covered start_map ≡ length words
+  pub moved : (s : ℕ) → is_start (h.cell s) ≡ true → is_moved (h.cell s) ≡ nat_eq (class_of (slice_index words s)) FORWARDER_CLASS
+  pub target : (s : ℕ) → is_moved (h.cell s) ≡ true → target_of (h.cell s) ≡ start_named (word_in segs 0) words (slice_index words (s + 1))
+  pub resolved : (s t : ℕ) → h.cell s ≡ Moved t → is_there (h.cell t) ≡ true
+
+-- the map has the starts of the ordinary objects
+pub record HasOrdinary (h : Store) (ordinary_map : StartMap) : Type 0 where
+  pub has : (s : ℕ) → has_start ordinary_map s ≡ is_ordinary h s
+  pub covers : covered ordinary_map ≡ h.names
