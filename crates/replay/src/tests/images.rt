@@ -48,9 +48,9 @@ fn header(count: u64, format: u64, class: u64) -> u64 {
     count << 56 | format << 24 | class
 }
 
-/// A store with the base image and a second segment of 18 words behind it, 1,000 words on: an array, a free chunk, an object of format 3
-/// with two slots of no value, and an object-stack page.
-fn two_segments(alloc: Global) -> Result<MemoryFiles, Fail> {
+/// A store with the base image and a second segment of 18 words behind it, 1,000 words on: an array with this word in slot 0, a free chunk,
+/// an object of format 3 with two slots of no value, and an object-stack page.
+fn two_segments(alloc: Global, slot: u64) -> Result<MemoryFiles, Fail> {
     let mut files = store(alloc, "")?;
     // the length of the heap
     patch(alloc, &mut files, 8, &50_432u64.to_le_bytes())?;
@@ -77,7 +77,7 @@ fn two_segments(alloc: Global) -> Result<MemoryFiles, Fail> {
     )?;
     let words = [
         header(2, 2, 51),
-        1_106_920,
+        slot,
         1_098_760,
         header(3, 9, 0),
         0,
@@ -251,7 +251,7 @@ fn class_tables_name_classes(rt: HostRuntime) -> Result<(), Fail> {
 
 #[test]
 fn references_lead_from_segment_to_segment(rt: HostRuntime) -> Result<(), Fail> {
-    let mut files = two_segments(rt.alloc())?;
+    let mut files = two_segments(rt.alloc(), 1_106_920)?;
     check_rows(
         &rt,
         rt.alloc(),
@@ -270,4 +270,14 @@ fn references_lead_from_segment_to_segment(rt: HostRuntime) -> Result<(), Fail> 
             ("same s t", "true"),
         ],
     )
+}
+
+#[test]
+fn places_in_a_later_segment_are_told(rt: HostRuntime) -> Result<(), Fail> {
+    // the array's slot names its own word, then an address in the gap between the segments
+    'slots: for slot in [1_106_872, 1_098_872] {
+        let mut files = two_segments(rt.alloc(), slot)?;
+        check_refused(&rt, rt.alloc(), &mut files, "image: slot 50424\n")?;
+    }
+    Ok(())
 }
