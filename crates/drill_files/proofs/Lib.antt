@@ -1,2 +1,2 @@
 mod Pieces
-mod Stores
+pub mod Stores

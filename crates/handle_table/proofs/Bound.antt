@@ -5,6 +5,7 @@ use Rattle.std.specs.Ordering.{eq_by_cmp}
 use Rattle.std.specs.FinMap.{FinMap, get, insert, remove, len, empty, from_entries, same_map, get-insert, get-remove, get-empty, get-from_entries, len-insert, len-empty, empty_of_len, from_entries_push}
 use Rattle.std.proofs.lemmas.List.{get_or-set_same, get_or-set_other, length-set}
 use Rattle.std.proofs.lemmas.Bool.{cases_eq, eq-eqb, ne_eqb, false≢true}
+use Rattle.std.proofs.lemmas.Option.{same_Some}
 use Rattle.std.proofs.lemmas.Cmp.{eq_by_cmp_equiv}
 use Rattle.std.specs.Cmp.{Equal-is}
 use Rattle.handle_table.proofs.SwapRemove.{StoodAt, StandsAt, stood_at, stands_at, apart-swap_remove, length-swap_remove}
@@ -155,12 +156,9 @@ len-bound (k ∷ ks) (w ∷ ws) d e =
     let grown : len (insert (bound ks ws) k w) ≡ len (bound ks ws) + 1 = len-insert handles_total (bound ks ws) k w ∙ ap (λ (o : Option ℕ). cond (is_some o) (len (bound ks ws)) (len (bound ks ws) + 1)) new in
     omega arith
 
-some_same : {v w : ℕ} → Some v ≡ Some w → v ≡ w
-some_same {v} {w} e = cc
-
 pub bound_or_before : (m : FinMap handle_cmp ℕ) (k q : Handle) (w v : ℕ) → get (insert m k w) q ≡ Some v → (v ≡ w) ⊎ (get m q ≡ Some v)
 bound_or_before m k q w v e = elim (handle_cases q k) [
-  | inl c ↦ inl (some_same (sym e ∙ ap (get (insert m k w)) c.0 ∙ get-insert_same m k w))
+  | inl c ↦ inl (same_Some _ _ (sym e ∙ ap (get (insert m k w)) c.0 ∙ get-insert_same m k w))
   | inr c ↦ inr (sym (get-insert_other m k w q c.0) ∙ e)
 ]
 

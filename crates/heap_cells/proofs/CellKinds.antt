@@ -1,7 +1,8 @@
 -- Whether a cell is empty, moved or there, as one test tells of another.
-use Rattle.std.proofs.Common.{◌≡◌, Bool, true, false, not, ◌&&◌, refl, sym, ◌∙◌}
-use Rattle.std.proofs.lemmas.Bool.{false≢true}
-use Rattle.spur_graph.specs.Cells.{Cell, Empty, Moved, There, is_start, is_moved, is_there, target_of, body_of}
+use Rattle.std.proofs.Common.{◌≡◌, ℕ, List, Bool, true, false, eqb, not, ◌&&◌, inl, inr, refl, sym, ◌∙◌}
+use Rattle.std.proofs.lemmas.Bool.{false≢true, cases_Bool}
+use Rattle.object_header.specs.Fields.{Fields}
+use Rattle.spur_graph.specs.Cells.{cell_from, Cell, Empty, Moved, There, is_start, is_moved, is_there, target_of, body_of}
 
 pub there_starts : (x : Cell) → is_there x ≡ true → is_start x ≡ true
 there_starts Empty e = e
@@ -50,6 +51,16 @@ no_start_is_not_moved (There b) e = refl
 
 pub no_start_is_not_there : (x : Cell) → is_start x ≡ false → is_there x ≡ false
 no_start_is_not_there x e = unmoved_is_there x (no_start_is_not_moved x e) ∙ e
+
+-- the class of a header tells whether a cell begins there
+pub start_from : (f : Fields) (next : ℕ) (ws : List ℕ) → is_start (cell_from f next ws) ≡ not (eqb f.class 0)
+start_from f next ws = elim (cases_Bool (eqb f.class 0)) [
+  | inl on ↦ rw on refl
+  | inr off ↦ elim (cases_Bool (eqb f.class 8)) [
+    | inl moved ↦ rw (off, moved) refl
+    | inr there ↦ rw (off, there) refl
+  ]
+]
 
 -- two tests tell together whether a cell is moved: the first has the starts, the second tells of a start
 pub moved_is_told : (x : Cell) (has test : Bool) → has ≡ is_start x → (is_start x ≡ true → is_moved x ≡ test) → is_moved x ≡ has && test

@@ -1,6 +1,7 @@
 -- Looking up in tables whose keys are renamed.
 use Rattle.std.proofs.Common.{◌≡◌, ℕ, Bool, true, false, cond, ◌||◌, List, [], ◌∷◌, map, refl, sym, ap, ◌∙◌, inl, inr, Some, Option}
 use Rattle.std.proofs.lemmas.Bool.{cases_eq, cases_Bool, false_from_ne_true}
+use Rattle.std.proofs.lemmas.Option.{same_Some}
 use Rattle.std.specs.Option.{option_map}
 use Rattle.std.specs.List.{AllByRecursion, list_any}
 use Rattle.std.specs.declared.cmp.Ordering.TheVariants.{Less, Equal, Greater}
@@ -31,9 +32,6 @@ pub chosen : {X Y : Type 0} (f : X → Y) (b : Bool) (x : X) (o : Option X) (y :
 chosen f true x o y u e is = ap (λ z. Some z) e
 chosen f false x o y u e is = is
 
-some_same : {X : Type 0} {x y : X} → Some x ≡ Some y → x ≡ y
-some_same {X} {x} {y} e = cc
-
 module _ {A X Y : Type 0} (p : ℕ → ℕ) (one : (a b : ℕ) → p a ≡ p b → a ≡ b) (f : X → Y) (key key' : A → ℕ) (F : A → X) (G : A → Y) where
   find-renamed : (a : ℕ) (ss : List A) → AllByRecursion (λ s. (p (key s) ≡ key' s) × (G s ≡ f (F s))) ss → find nat_cmp (p a) (map (λ s. (key' s, G s)) ss) ≡ option_map f (find nat_cmp a (map (λ s. (key s, F s)) ss))
   find-renamed a [] all = refl
@@ -51,7 +49,7 @@ module _ {A X : Type 0} (key : A → ℕ) (F : A → X) where
   find-member : (a : ℕ) (ss : List A) (v : X) → find nat_cmp a (map (λ s. (key s, F s)) ss) ≡ Some v → (s : A) × In ss s × (key s ≡ a) × (F s ≡ v)
   find-member a [] v e = absurd cc
   find-member a (s ∷ ss) v e = elim (cases_Bool (eq_by_cmp nat_cmp a (key s))) [
-    | inl on ↦ (s, inl refl, sym (key_same a (key s) on), some_same (sym (ap (λ b. cond b (Some (F s)) (find nat_cmp a (map (λ t. (key t, F t)) ss))) on) ∙ e))
+    | inl on ↦ (s, inl refl, sym (key_same a (key s) on), same_Some _ _ (sym (ap (λ b. cond b (Some (F s)) (find nat_cmp a (map (λ t. (key t, F t)) ss))) on) ∙ e))
     | inr off ↦ let r = find-member a ss v (sym (ap (λ b. cond b (Some (F s)) (find nat_cmp a (map (λ t. (key t, F t)) ss))) off) ∙ e) in (r.0, inr r.1, r.2, r.3)
   ]
 

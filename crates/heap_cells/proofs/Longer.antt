@@ -1,16 +1,12 @@
 -- A head that was read in a range is read where the range goes on.
-use Rattle.std.proofs.Common.{◌≡◌, ℕ, Bool, true, false, cond, ◌+◌, ◌-◌, ◌<◌, ◌≤◌, max, List, length, get_or, slice_range, refl, sym, ◌∙◌, inl, inr, arith, nat_lt, nat_eq, not, ◌&&◌, Result, Ok, Err}
+use Rattle.std.proofs.Common.{◌≡◌, ℕ, ◌+◌, ◌-◌, ◌<◌, ◌≤◌, max, List, length, get_or, slice_range, sym, ◌∙◌, inl, inr, arith, nat_lt, nat_eq, not, ◌&&◌, Ok}
 use Rattle.std.proofs.lemmas.Bool.{cases_Bool, le-ltb}
 use Rattle.std.proofs.lemmas.Bool.Decides.{nat_tests}
 use Rattle.std.proofs.lemmas.List.Edits.{length-between, get_or-between}
 use Rattle.object_header.specs.Head.{head_of, body_of, count_of, overflow_slots_of, class_of, format_of, is_unformed, is_refused_format}
 use Rattle.object_header.specs.declared.head.Head.{Head}
-use Rattle.object_header.specs.declared.head.HeadError.{HeadError}
+use Rattle.object_header.proofs.Heads.{ok-else}
 use Rattle.spur_graph.specs.Places.{head_at}
-
-ok-else : (b : Bool) (e : HeadError) (r : Result Head HeadError) (h : Head) → cond b (Err e) r ≡ Ok h → (b ≡ false) × (r ≡ Ok h)
-ok-else true e r h k = absurd cc
-ok-else false e r h k = (refl, k)
 
 -- the second list begins with the first
 record Begins (ws vs : List ℕ) : Type 0 where

@@ -1,10 +1,10 @@
 -- The room of settled words is that of the words, with the chunks behind as free ones.
-use Rattle.std.proofs.Common.{◌≡◌, ℕ, suc, Bool, true, false, not, ◌&&◌, ◌≤◌, eqb, List, [], ◌∷◌, ◌++◌, map, get_or, refl, sym, ap, ◌∙◌, subst, arith, Some, None, Option}
+use Rattle.std.proofs.Common.{◌≡◌, ℕ, suc, Bool, true, false, not, ◌&&◌, ◌≤◌, eqb, List, [], ◌∷◌, ◌++◌, map, get_or, refl, sym, ap, ◌∙◌, subst, arith}
 use mathlib.Core.Path.{fun_ext}
 use Rattle.std.proofs.lemmas.Bool.{and_left}
 use Rattle.std.proofs.lemmas.List.{append-nil, append_cancel_left, map-append}
 use Rattle.std.proofs.lemmas.List.Elements.{filter-append, filter_agree, filter_passes, recursion_from_All}
-use Rattle.std.specs.Option.{option_map}
+use Rattle.std.proofs.lemmas.Iterator.Adapters.{option_map_id}
 use Rattle.std.specs.List.{All, AllByRecursion, Contains, filter, sum_by, count_by, range_with_len}
 use Rattle.std.specs.Ordering.{nat_cmp}
 use Rattle.std.specs.FinMap.{get, from_entries}
@@ -25,10 +25,6 @@ use Rattle.heap_cells.proofs.Both.{Both, start-same}
 use Rattle.heap_cells.proofs.Internals.{nil_slot-same, internal-same, ordinary-same}
 use Rattle.heap_cells.proofs.Finding.{get-renamed, contains-renamed}
 use Rattle.heap_cells.proofs.Values.{ordinary_named}
-
-option-same : {X : Type 0} (o : Option X) → option_map (λ x. x) o ≡ o
-option-same None = refl
-option-same (Some x) = refl
 
 settled_pinned : (h : Store) (s : ℕ) (c : Cell) → (body_of (settled_cell h s c)).pinned ≡ (body_of c).pinned
 settled_pinned h s Empty = refl
@@ -103,7 +99,7 @@ module _ {old new : Store} (k : Both old new) (cs fs : List Chunk) (chunks : Hav
     spots-same a =
         ap (λ ds. get (from_entries {R = nat_cmp} (map (λ (c : Chunk). (c.start, spot_of c)) ds)) (p a)) ordinary_chunks-same
         ∙ get-renamed p one (λ (x : Spot). x) (λ (c : Chunk). name c.start) (λ (c : Chunk). c.start) spot_of spot_of a (ordinary_chunks old cs) (with_spots (ordinary_chunks old cs) chunks_named)
-        ∙ option-same (get (from_entries {R = nat_cmp} (map (λ (c : Chunk). (name c.start, spot_of c)) (ordinary_chunks old cs))) a)
+        ∙ option_map_id (get (from_entries {R = nat_cmp} (map (λ (c : Chunk). (name c.start, spot_of c)) (ordinary_chunks old cs))) a)
 
     old_names-same : (a : ℕ) → contains (sets.from_list {R = nat_cmp} (map (λ (c : Chunk). c.start) (ordinary_chunks new (cs ++ fs)))) (p a) ≡ contains (sets.from_list {R = nat_cmp} (map (λ (c : Chunk). name c.start) (ordinary_chunks old cs))) a
     old_names-same a =

@@ -51,7 +51,8 @@ cells-mapped to into words new cs f reads none s = mapped to into words new cs f
 
 -- ---- the row
 
-abbrev chunk_by : ℕ → Bool → ℕ → Chunk
+-- the chunk at a place, by whether it has two head words and by its slots
+abbrev pub chunk_by : ℕ → Bool → ℕ → Chunk
 chunk_by at twice slots = record { at = at; start = cond twice (at + 1) at; size = cond twice 2 1 + max 1 slots; slots = slots }
 
 kept-chunk : (at v w : ℕ) → leads v ≡ leads w → slots_told v ≡ slots_told w → chunk_of at v ≡ chunk_of at w

@@ -1,9 +1,12 @@
 //! The theory of what stands in the words of a heap: rows of chunks, cells, chains of forwarders, and what loading and writing do to them.
 //!
 //! Words are cut into chunks, each start has a cell (nothing, a forwarder, or an object with its words as they are), and a graph is a function of
-//! the cells. The layers above rest on the laws that stand here: what a write changes, and that the words of an accepted image, once their references
-//! are those of a heap, stand for the image's graph. The layout is Spur's object representation; forwarders are those of "A Partial Read Barrier for
-//! Efficient Support of Live Object-Oriented Programming" (ISMM 2015).
+//! the cells. The layers above rest on the laws that stand here: what a write changes, that the words of an accepted image, once their references
+//! are those of a heap, stand for the image's graph, and that such a graph is closed. Beside the laws stands what reads a chunk by its head words:
+//! where it starts and ends, its slots, and how many of them are pointers.
+//!
+//! The layout is Spur's object representation; forwarders are those of "A Partial Read Barrier for Efficient Support of Live Object-Oriented
+//! Programming" (ISMM 2015).
 #![tactic(auto)]
 
 mod laws;

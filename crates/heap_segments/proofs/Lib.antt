@@ -1,3 +1,5 @@
 pub mod Rising
 pub mod Laid
 pub mod Searches
+pub mod ByteWords
+pub mod Chained

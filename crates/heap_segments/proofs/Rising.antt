@@ -3,6 +3,7 @@ use Rattle.std.proofs.Common.{◌≡◌, ℕ, ◌+◌, ◌*◌, ◌/◌, ◌%◌
 use Rattle.std.proofs.lemmas.Bool.{cases_lt}
 use Rattle.std.proofs.lemmas.Bool.Decides.{nat_tests}
 use Rattle.std.proofs.lemmas.List.Sums.{sum_by-cons}
+use Rattle.std.proofs.lemmas.Option.{same_Some}
 use Rattle.spur_graph.specs.Segments.{Segment, end_of, word_count, total_words, word_in, address_in}
 use Rattle.heap_segments.specs.Rising.{IsAbove, IsRising, has_address, IsOneToOne, HasItsWord, HasItsAddress}
 
@@ -46,9 +47,6 @@ record IsFound (segs : List Segment) (at a n : ℕ) : Type 0 where
   before : n < at + total_words segs
   there : address_in segs (n - at) ≡ a
 
-some_same : {n m : ℕ} → Some n ≡ Some m → n ≡ m
-some_same {n} {m} e = cc
-
 found_here : (s : Segment) (rest : List Segment) (at a n floor : ℕ) → IsAbove floor s → has_address s a ≡ true → at + (a - s.address) / 8 ≡ n → IsFound (s ∷ rest) at a n
 found_here s rest at a n floor is has same =
     let parts : (a % 8 ≡ 0) × (s.address ≤ a) × (a < s.address + 8 * word_count s) = inside s.address (s.address + 8 * word_count s) a has in
@@ -78,7 +76,7 @@ found (s ∷ rest) floor at a n rising is = go (has_address s a) refl (found res
     told b has = sym (ap (λ t. cond t (Some (at + (a - s.address) / 8)) (word_in rest (at + word_count s) a)) has) ∙ (sym (word-cons s rest at a) ∙ is)
 
     go : (b : Bool) → has_address s a ≡ b → (word_in rest (at + word_count s) a ≡ Some n → IsFound rest (at + word_count s) a n) → IsFound (s ∷ rest) at a n
-    go true has later = found_here s rest at a n floor rising.0 has (some_same (told true has))
+    go true has later = found_here s rest at a n floor rising.0 has (same_Some _ _ (told true has))
     go false has later = found_later s rest at a n (later (told false has))
 
 pub has_its_address : HasItsAddress

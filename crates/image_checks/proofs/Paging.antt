@@ -1,5 +1,6 @@
 -- Which slots of the hidden roots name pages, while those that are named are taken out of a map of objects.
 use Rattle.std.proofs.Common.{◌≡◌, ◌≢◌, ℕ, suc, zero, Bool, true, false, not, ◌&&◌, ◌||◌, ◌+◌, ◌<◌, eqb, List, [], ◌∷◌, length, get_or, refl, sym, ap, ◌∙◌, arith, inl, inr, Some, None, Option}
+use mathlib.Core.Bool.{and-false, and-true}
 use Rattle.std.proofs.lemmas.Bool.{false≢true, cases_Bool, cases_eq, eq-eqb, ne_eqb, or_parts, or_cases}
 use Rattle.std.specs.List.{list_any}
 use Rattle.spur_graph.specs.Cells.{Store, is_there, first, any_below}
@@ -106,28 +107,16 @@ module _ (h : Store) where
     | inl same ↦
         let told : tells h i s ≡ true = ap (is_at s) e ∙ eq-eqb t s (sym same) in
         let taken : is_taken h (i + 1) s ≡ true = (λ x. not (ne_eqb s (first h 0) (λ is. page (sym same ∙ is)) x) && (more_told i s x)) ∙ ap (λ b. b || any_below (λ j. tells h j s) i) told in
-        ap now same ∙ gone ∙ sym (ap (λ b. is_there (h.cell s) && not b) taken ∙ never (is_there (h.cell s)))
+        ap now same ∙ gone ∙ sym (ap (λ b. is_there (h.cell s) && not b) taken ∙ and-false (is_there (h.cell s)))
     | inr other ↦
         let untold : tells h i s ≡ false = ap (is_at s) e ∙ ne_eqb t s (λ is. other (sym is)) in
         others s other ∙ left s ∙ ap (λ b. is_there (h.cell s) && not (not (eqb s (first h 0)) && b)) (sym (more_told i s ∙ ap (λ b. b || any_below (λ j. tells h j s) i) untold))
   ]
-    where
-      never : (b : Bool) → b && not true ≡ false
-      never true = refl
-      never false = refl
 
   -- at first nothing is taken
   pub left_all : (has : ℕ → Bool) → ((s : ℕ) → has s ≡ is_there (h.cell s)) → AreLeft h 0 has
   unfolding any_below
-  left_all has all s = all s ∙ sym (ap (λ b. is_there (h.cell s) && not b) (never (not (eqb s (first h 0)))) ∙ kept (is_there (h.cell s)))
-    where
-      never : (b : Bool) → b && false ≡ false
-      never true = refl
-      never false = refl
-
-      kept : (b : Bool) → b && not false ≡ b
-      kept true = refl
-      kept false = refl
+  left_all has all s = all s ∙ sym (ap (λ b. is_there (h.cell s) && not b) (and-false (not (eqb s (first h 0)))) ∙ and-true (is_there (h.cell s)))
 
   -- at the end the ordinary objects are left, once the free lists object and the hidden roots are taken out
   pub left_ordinary : (has one two : ℕ → Bool) (a b : ℕ) → a ≡ first h 3 → b ≡ first h 4 → AreLeft h page_places has

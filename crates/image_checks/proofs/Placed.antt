@@ -1,5 +1,6 @@
 -- What stands in the chunk at which a walk over all words is.
 use Rattle.std.proofs.Common.{◌≡◌, ◌≢◌, ℕ, Bool, ◌+◌, ◌<◌, ◌≤◌, max, inl, inr, refl, sym, ap, ◌∙◌, arith, List, length, drop, get_or, set, subst, Option, Ok, true, false, nat_lt, nat_eq, not, ◌&&◌, ◌||◌}
+use mathlib.Core.Bool.{and-false, or-false}
 use Rattle.std.proofs.lemmas.Bool.{cases_lt, cases_eq, cases_Bool, lt-ltb, le-ltb, eq-eqb, ne_eqb, false≢true}
 use Rattle.std.proofs.lemmas.Bool.Decides.{nat_tests}
 use Rattle.std.proofs.lemmas.List.{length-take, length-drop, length-map, get_or-set_same, get_or-set_other}
@@ -12,6 +13,7 @@ use Rattle.spur_graph.specs.Chunks.{Chunk, Cuts, chunks}
 use Rattle.spur_graph.specs.Cells.{Body, cell_in, cell_from, body_from, body_of, start_named, store_in, is_start, is_there}
 use Rattle.spur_graph.specs.Places.{head_at, place, is_bad_root}
 use Rattle.heap_cells.specs.Rows.{slots_at, slots_from, starts_of, AllRead}
+use Rattle.heap_cells.proofs.CellKinds.{start_from}
 use Rattle.heap_cells.proofs.Members.{In, in_list, chunk_of_start}
 use Rattle.heap_cells.proofs.Cutting.{stands, shape, cell-at}
 use Rattle.heap_cells.proofs.Starts.{read_cell-is, start-read, starts-rise}
@@ -19,12 +21,6 @@ use Rattle.heap_cells.proofs.HeadReads.{from-head}
 use Rattle.heap_cells.proofs.Ranges.{range-cuts}
 use Rattle.heap_cells.proofs.Wholes.{place-is-start, place-is-end}
 use Rattle.image_checks.specs.Checks.{HasFive}
-
-start-if : (f : Fields) (next : ℕ) (ws : List ℕ) → is_start (cell_from f next ws) ≡ not (nat_eq f.class 0)
-start-if f next ws = elim (cases_Bool (nat_eq f.class 0)) [
-  | inl a ↦ rw a refl
-  | inr a ↦ elim (cases_Bool (nat_eq f.class 8)) [ inl b ↦ rw (a, b) refl | inr b ↦ rw (a, b) refl ]
-]
 
 there-of : (f : Fields) (next : ℕ) (ws : List ℕ) → is_unformed f.class ≡ false → (is_there (cell_from f next ws) ≡ true) × (body_of (cell_from f next ws) ≡ body_from f ws)
 there-of f next ws e = elim (cases_Bool (nat_eq f.class 0)) [
@@ -107,10 +103,10 @@ module _ (words : List ℕ) (none : AllRead words 0 (length words)) where
   marked k at s h to c size lead = elim (cases_eq s (at + h.lead)) [
     | inl e ↦
         let on : is_start (cell_in to words (chunks words) s) ≡ not (nat_eq (class_of h.header) 0) =
-        ap (λ n. is_start (cell_in to words (chunks words) n)) e ∙ ap is_start (c.cell to) ∙ start-if (fields_of h.header) _ _ in
+        ap (λ n. is_start (cell_in to words (chunks words) n)) e ∙ ap is_start (c.cell to) ∙ start_from (fields_of h.header) _ _ in
         rw (eq-eqb s (at + h.lead) e, le-ltb s at (omega (arith, e)), lt-ltb s (at + h.words) (omega (arith, e, size))) (sym on)
     | inr n ↦ rw (ne_eqb s (at + h.lead) n) (elim (cases_lt s at) [
-      | inl a ↦ rw (lt-ltb s at a, lt-ltb s (at + h.words) (omega arith)) (or-none (is_start (cell_in to words (chunks words) s)))
+      | inl a ↦ rw (lt-ltb s at a, lt-ltb s (at + h.words) (omega arith)) (or-false (is_start (cell_in to words (chunks words) s)))
       | inr a ↦ rw (le-ltb s at a) (elim (cases_lt s (at + h.words)) [
         | inr b ↦ rw (le-ltb s (at + h.words) b) refl
         | inl b ↦ rw (lt-ltb s (at + h.words) b) (elim (cases_Bool (is_start (cell_in to words (chunks words) s))) [
@@ -120,20 +116,12 @@ module _ (words : List ℕ) (none : AllRead words 0 (length words)) where
       ])
     ])
   ]
-    where
-      or-none : (b : Bool) → b || false ≡ b
-      or-none true = refl
-      or-none false = refl
 
   pub all-marked : (to : ℕ → Option ℕ) (at s : ℕ) → length words ≤ at → nat_lt s at && is_start (cell_in to words (chunks words) s) ≡ is_start (cell_in to words (chunks words) s)
   all-marked to at s l = elim (cases_Bool (is_start (cell_in to words (chunks words) s))) [
     | inl on ↦ let r = start-read to words (length words) (chunks words) s row on in let b = r.below in rw (on, lt-ltb s at (omega (arith, b))) refl
-    | inr off ↦ rw off (never (nat_lt s at))
+    | inr off ↦ rw off (and-false (nat_lt s at))
   ]
-    where
-      never : (b : Bool) → b && false ≡ false
-      never true = refl
-      never false = refl
 
   -- ---- roots
 

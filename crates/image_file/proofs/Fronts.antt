@@ -3,6 +3,7 @@ use Rattle.std.proofs.Common.{◌≡◌, ◌≢◌, ◌⊎◌, inl, inr, ℕ, �
 use Rattle.std.proofs.lemmas.Bool.{cases_eq}
 use Rattle.std.proofs.lemmas.Bool.Decides.{nat_tests}
 use Rattle.std.proofs.lemmas.List.{take_all}
+use Rattle.std.proofs.lemmas.Option.{same_Some}
 use Rattle.std.specs.Option.{IfSome, option_map}
 use Rattle.std.specs.Prelude.{if◌then◌else◌}
 use Rattle.spur_io.specs.Store.{FileMap}
@@ -19,13 +20,10 @@ use Rattle.image_file.specs.Passed.{Passes}
 use Rattle.image_file.specs.Errors.{IsErrorOf, IsSoundHeader, header_error}
 use Rattle.image_file.proofs.Rows.{passes_none, passes_next, first_cause, least_zero}
 
-some_same : {A : Type 0} (x y : A) → Some x ≡ Some y → x ≡ y
-some_same x y same = cc
-
 -- what is told of a store is told of its file
 pub told_file : (told : Option FileMap) (name file : List ℕ) (P : List ℕ → Type 0) → Tells told name file → IfSome told (λ store. P (store name)) → P file
 told_file None name file P is holds = cc
-told_file (Some store) name file P is holds = subst P (some_same (store name) file is) holds
+told_file (Some store) name file P is holds = subst P (same_Some (store name) file is) holds
 
 -- what holds of the file of a store holds of the store
 pub file_told : (told : Option FileMap) (name : List ℕ) (P : List ℕ → Type 0) → ((file : List ℕ) → Tells told name file → P file) → IfSome told (λ store. P (store name))

@@ -1,6 +1,7 @@
 -- The chain of segments, one segment more.
 use Rattle.std.proofs.Common.{◌≡◌, ◌≢◌, inl, inr, ℕ, suc, ◌+◌, ◌-◌, ◌*◌, ◌%◌, ◌≤◌, ◌<◌, List, [], ◌∷◌, ◌++◌, length, arith, refl, subst, sym, ap, ◌∙◌, true, false, Bool, Result, Ok, Err, IsErr, ◌↔◌, nat_eq, not, ◌||◌, append_assoc, length-append, if◌then◌else◌}
-use Rattle.std.proofs.lemmas.Bool.{cases_eq, cases_lt, false≢true}
+use mathlib.Core.Bool.{not-not}
+use Rattle.std.proofs.lemmas.Bool.{both_ways, cases_eq, cases_lt, false≢true, not-false, or_parts}
 use Rattle.std.proofs.lemmas.Bool.Decides.{nat_tests}
 use Rattle.std.specs.Int.{w64}
 use Rattle.spur_graph.specs.Bytes.{number}
@@ -9,6 +10,7 @@ use Rattle.spur_graph.specs.Segments.{Segment, segment, segments, chain, most_se
 use Rattle.spur_graph.specs.ImageCauses.{Comes, IsBadLink, IsLeast, is_bad_segment, behind}
 use Rattle.heap_segments.specs.Rising.{end_address, end_place, is_refused}
 use Rattle.heap_segments.specs.Bridges.{told}
+use Rattle.heap_segments.proofs.Chained.{linked, chain-cut, segment-first, segment-next, segments-chain}
 use Rattle.heap_segments.specs.declared.bridge.Next.{Next}
 use Rattle.heap_segments.specs.declared.bridge.Next.TheVariants as next
 use Rattle.heap_segments.specs.declared.bridge.SegmentFault.{SegmentFault}
@@ -17,17 +19,6 @@ use Rattle.image_header.specs.declared.header.ImageHeader.{ImageHeader}
 use Rattle.image_header.specs.Headers.{IsHeaderOf}
 use Rattle.image_file.specs.declared.chain.Link.{Link}
 use Rattle.image_file.specs.Linked.{IsReady, Leads, IsBadAt, IsChain, EndsEarly, segment_of}
-
-both_ways : (b : Bool) → b ≡ true → b ≡ false → ⊥
-both_ways b on off = cc
-
-not_not : (b : Bool) → not (not b) ≡ b
-not_not true = refl
-not_not false = refl
-
-or_false : (a b : Bool) → (a || b) ≡ false → (a ≡ false) × (b ≡ false)
-or_false true b is = cc
-or_false false b is = (refl, is)
 
 -- a bridge that ends the chain, one that tells of a segment, and one that leaves bytes over
 abbrev choice : Bool → Bool → ℕ → Next → Result Next SegmentFault
@@ -49,26 +40,10 @@ choice_end true false n address size fault is = (refl, refl)
 choice_end false b n address size fault is = cc
 
 chain_more : (bytes : List ℕ) (i m : ℕ) → is_good bytes (segment bytes i) ≡ true → is_last bytes (segment bytes i) ≡ false → chain bytes i (suc m) ≡ segment bytes i ∷ chain bytes (i + 1) m
-unfolding chain
-chain_more bytes i m good more = pick (is_good bytes (segment bytes i)) (is_last bytes (segment bytes i)) (segment bytes i) (chain bytes (i + 1) m) good more
-  where
-    pick : (a b : Bool) (s : Segment) (rest : List Segment) → a ≡ true → b ≡ false → (if a then s ∷ (if b then [] else rest) else []) ≡ s ∷ rest
-    pick true true s rest on off = cc
-    pick true false s rest on off = refl
-    pick false b s rest on off = cc
+chain_more bytes i m good more = chain-cut bytes i m ∙ (λ k. linked (good k) (more k) (segment bytes i) (chain bytes (i + 1) m))
 
 chain_last : (bytes : List ℕ) (i m : ℕ) → is_good bytes (segment bytes i) ≡ true → is_last bytes (segment bytes i) ≡ true → chain bytes i (suc m) ≡ segment bytes i ∷ []
-unfolding chain
-chain_last bytes i m good last = pick (is_good bytes (segment bytes i)) (is_last bytes (segment bytes i)) (segment bytes i) (chain bytes (i + 1) m) good last
-  where
-    pick : (a b : Bool) (s : Segment) (rest : List Segment) → a ≡ true → b ≡ true → (if a then s ∷ (if b then [] else rest) else []) ≡ s ∷ []
-    pick true true s rest on off = refl
-    pick true false s rest on off = cc
-    pick false b s rest on off = cc
-
-segment_next : (bytes : List ℕ) (i : ℕ) → segment bytes (i + 1) ≡ next_of bytes (segment bytes i)
-unfolding segment
-segment_next bytes i = let one : i + 1 ≡ suc i = omega arith in ap (segment bytes) one ∙ refl
+chain_last bytes i m good last = chain-cut bytes i m ∙ (λ k. linked (good k) (last k) (segment bytes i) (chain bytes (i + 1) m))
 
 -- the chain comes to one segment more
 comes_next : (bytes : List ℕ) (n : ℕ) → Comes bytes n → is_good bytes (segment bytes n) ≡ true → is_last bytes (segment bytes n) ≡ false → Comes bytes (n + 1)
@@ -83,7 +58,7 @@ comes_next bytes n comes good more j lt = elim (cases_eq j n) [
 passed : (bytes : List ℕ) (m : ℕ) → m < most_segments → (is_good bytes (segment bytes m) ≡ true) × (is_last bytes (segment bytes m) ≡ false) → IsBadLink bytes m → ⊥
 passed bytes m few good bad = elim bad [
   | inl stands ↦ small (nat_eq m most_segments) (is_good bytes (segment bytes m)) (grind (arith, nat_tests)) good.0 stands
-  | inr ends ↦ both_ways (is_last bytes (segment bytes m)) ends.0 good.1
+  | inr ends ↦ both_ways (is_last bytes (segment bytes m)) good.1 ends.0
 ]
   where
     small : (a b : Bool) → a ≡ false → b ≡ true → (a || not b) ≡ true → ⊥
@@ -105,19 +80,19 @@ none_bad bytes n few comes stands last all i bad = elim (cases_lt i n) [
   | inl lt ↦ passed bytes i (omega (arith, lt, few)) (comes i lt) bad.1
   | inr le ↦ elim (cases_eq i n) [
     | inl same ↦ here (subst (λ (k : ℕ). IsBadLink bytes k) same bad.1)
-    | inr other ↦ both_ways (is_last bytes (segment bytes n)) last (bad.0 n (omega (arith, le, other))).1
+    | inr other ↦ both_ways (is_last bytes (segment bytes n)) (bad.0 n (omega (arith, le, other))).1 last
   ]
 ]
   where
     here : IsBadLink bytes n → ⊥
-    here link = elim link [ inl is ↦ both_ways (is_bad_segment bytes n) is stands | inr ends ↦ ends.1 all ]
+    here link = elim link [ inl is ↦ both_ways (is_bad_segment bytes n) stands is | inr ends ↦ ends.1 all ]
 
 -- what a map refuses is what the chain refuses
 refused_is : (bytes : List ℕ) (map : List Segment) (l : Link) (end : ℕ) → Leads bytes map l → end ≡ header_bytes + heap_bytes bytes → is_bad_segment bytes (length map) ≡ is_refused map (end - l.place) l.size l.address
 refused_is bytes map l end leads is =
     let Test : Segment → Bool = λ s. nat_eq (length map) most_segments || not (is_good bytes s) in
     let Size : ℕ → Bool = λ e. nat_eq (length map) most_segments || not (not (is_bad_size (e - l.place) l.size l.address)) in
-    ap Test leads.next ∙ (ap Size (sym is) ∙ ap (λ b. nat_eq (length map) most_segments || b) (not_not (is_bad_size (end - l.place) l.size l.address)))
+    ap Test leads.next ∙ (ap Size (sym is) ∙ ap (λ b. nat_eq (length map) most_segments || b) (not-not (is_bad_size (end - l.place) l.size l.address)))
 
 -- a segment was entered, and the two words of its bridge were read
 pub record IsEntered (bytes : List ℕ) (map later : List Segment) (l : Link) (end first second : ℕ) : Type 0 where
@@ -132,15 +107,11 @@ stands : (bytes : List ℕ) (map later : List Segment) (l : Link) (end first sec
 stands bytes map later l end first second e = refused_is bytes map l end e.leads e.end_is ∙ e.fits
 
 good : (bytes : List ℕ) (map later : List Segment) (l : Link) (end first second : ℕ) → IsEntered bytes map later l end first second → is_good bytes (segment bytes (length map)) ≡ true
-good bytes map later l end first second e = back (is_good bytes (segment bytes (length map))) (or_false (nat_eq (length map) most_segments) (not (is_good bytes (segment bytes (length map)))) (stands bytes map later l end first second e)).1
-  where
-    back : (b : Bool) → not b ≡ false → b ≡ true
-    back true is = refl
-    back false is = cc
+good bytes map later l end first second e = not-false (is_good bytes (segment bytes (length map))) (or_parts (nat_eq (length map) most_segments) (not (is_good bytes (segment bytes (length map)))) (stands bytes map later l end first second e)).1
 
 few : (bytes : List ℕ) (map later : List Segment) (l : Link) (end first second : ℕ) → IsEntered bytes map later l end first second → length map ≤ most_segments → length map < most_segments
 few bytes map later l end first second e most =
-    let other : nat_eq (length map) most_segments ≡ false = (or_false (nat_eq (length map) most_segments) (not (is_good bytes (segment bytes (length map)))) (stands bytes map later l end first second e)).0 in
+    let other : nat_eq (length map) most_segments ≡ false = (or_parts (nat_eq (length map) most_segments) (not (is_good bytes (segment bytes (length map)))) (stands bytes map later l end first second e)).0 in
     let apart : length map ≢ most_segments = grind (arith, nat_tests) in
     omega (arith, most, apart)
 
@@ -171,7 +142,7 @@ leads_next bytes map later l end first second address size most e is =
     let rest : List Segment = chain bytes (length later) (most_segments - length later) in
     record {
       comes = subst (λ (k : ℕ). Comes bytes k) (sym count) (comes_next bytes n e.leads.comes stood more);
-      next = ap (segment bytes) count ∙ (segment_next bytes n ∙ (ap (next_of bytes) e.leads.next
+      next = ap (segment bytes) count ∙ (segment-next bytes n ∙ (ap (next_of bytes) e.leads.next
           ∙ (ap (λ s. Link_is s (l.address + l.size + 8 * gap_of (number w64 (l.place + l.size - 16) bytes))) (sym sized) ∙ ap (Link_is size) (sym there))));
       chain_is = e.leads.chain_is ∙ (ap (λ k. map ++ chain bytes n k) turns ∙ (ap (λ segs. map ++ segs) (chain_more bytes n (most_segments - (n + 1)) stood more ∙ one_more)
           ∙ (sym (append_assoc map (segment_of l ∷ []) rest) ∙ ap (λ segs. segs ++ rest) (sym e.later_is))));
@@ -236,21 +207,13 @@ entered bytes map later l end first second end_is leads fits place low is first_
       second_is = second_is ∙ ap (λ n. number w64 n bytes) back;
     }
 
-first_is : (bytes : List ℕ) → segment bytes 0 ≡ record { at = header_bytes; size = first_size bytes; address = base bytes }
-unfolding segment
-first_is bytes = refl
-
-chain_is : (bytes : List ℕ) → segments bytes ≡ [] ++ chain bytes 0 (most_segments - 0)
-unfolding segments
-chain_is bytes = refl
-
 -- the chain begins
 pub leads_first : (bytes : List ℕ) (map : List Segment) (l : Link) (h : ImageHeader) → map ≡ [] → IsHeaderOf bytes h → l.place ≡ header_bytes → l.size ≡ first_size bytes → l.address ≡ h.base → Leads bytes map l
 leads_first bytes map l h none header place size address =
     let At : ℕ → ℕ → ℕ → Segment = λ p n a. record { at = p; size = n; address = a } in
     let first : segment bytes 0 ≡ segment_of l =
-    first_is bytes ∙ (ap (λ p. At p (first_size bytes) (base bytes)) (sym place) ∙ (ap (λ n. At l.place n (base bytes)) (sym size) ∙ ap (λ a. At l.place l.size a) (sym (address ∙ header.base_is)))) in
-    let begins : Leads bytes [] l = record { comes = λ j lt. absurd (omega (arith, lt)); next = first; chain_is = chain_is bytes } in
+    segment-first bytes ∙ (ap (λ p. At p (first_size bytes) (base bytes)) (sym place) ∙ (ap (λ n. At l.place n (base bytes)) (sym size) ∙ ap (λ a. At l.place l.size a) (sym (address ∙ header.base_is)))) in
+    let begins : Leads bytes [] l = record { comes = λ j lt. absurd (omega (arith, lt)); next = first; chain_is = segments-chain bytes } in
     subst (λ (segs : List Segment). Leads bytes segs l) (sym none) begins
 
 pub ready_first : (end : ℕ) (map : List Segment) (l : Link) (h : ImageHeader) → map ≡ [] → end_address 0 map ≡ 0 → end_place header_bytes map ≡ header_bytes → l.place ≡ header_bytes → l.address ≡ h.base

@@ -1,52 +1,25 @@
 -- The words of some bytes, piece by piece.
-use Rattle.std.proofs.Common.{◌≡◌, ℕ, zero, suc, ◌+◌, ◌*◌, ◌≤◌, List, [], ◌∷◌, ◌++◌, length, take, drop, arith, refl, sym, ap, ◌∙◌, ◌<◌, length-take, length-drop, length-append, slice_index_or}
-use Rattle.std.proofs.lemmas.List.{take-append-le, take_all, drop-drop, drop-take, take-take}
+use Rattle.std.proofs.Common.{◌≡◌, ℕ, zero, suc, ◌+◌, ◌*◌, ◌≤◌, List, [], ◌∷◌, ◌++◌, length, take, drop, arith, sym, ap, ◌∙◌, ◌<◌, length-take, length-drop, length-append, slice_index_or}
+use Rattle.std.proofs.lemmas.List.{nil_from_length, drop-append-le, take-append-le, take_all, drop-drop, drop-take, take-take}
 use Rattle.std.proofs.Math.Seq.{take-add}
 use Rattle.std.specs.Int.{w64, from_le_bytes}
 use Rattle.spur_graph.specs.Bytes.{words_in, number}
+use Rattle.heap_segments.proofs.ByteWords.{words_in_cut, words_in_short}
 use Rattle.image_file.specs.Held.{HasWords}
-
--- the first word, and the others
-pub words_in_cut : (bytes : List ℕ) → 8 ≤ length bytes → words_in bytes ≡ from_le_bytes w64 (take 8 bytes) ∷ words_in (drop 8 bytes)
-unfolding words_in
-words_in_cut (a ∷ b ∷ c ∷ d ∷ e ∷ f ∷ g ∷ h ∷ rest) le = refl
-words_in_cut bytes le = absurd (omega arith)
-
--- no whole word
-pub words_in_short : (bytes : List ℕ) → length bytes ≤ 7 → words_in bytes ≡ []
-unfolding words_in
-words_in_short (a ∷ b ∷ c ∷ d ∷ e ∷ f ∷ g ∷ h ∷ rest) le = absurd (omega arith)
-words_in_short bytes le = refl
-
-no_bytes : (xs : List ℕ) → length xs ≤ 0 → xs ≡ []
-no_bytes [] le = refl
-no_bytes (x ∷ xs) le = absurd (omega arith)
-
-append_drop : (n : ℕ) (xs ys : List ℕ) → n ≤ length xs → drop n (xs ++ ys) ≡ drop n xs ++ ys
-append_drop zero xs ys le = refl
-append_drop (suc n) [] ys le = absurd (omega arith)
-append_drop (suc n) (x ∷ xs) ys le = append_drop n xs ys (omega arith)
 
 -- whole words before others
 pub words_in-append : (n : ℕ) (xs ys : List ℕ) → length xs ≡ 8 * n → words_in (xs ++ ys) ≡ words_in xs ++ words_in ys
 words_in-append zero xs ys is =
-    let none : xs ≡ [] = no_bytes xs (omega arith) in
+    let none : xs ≡ [] = nil_from_length xs (omega arith) in
     ap (λ zs. words_in (zs ++ ys)) none ∙ sym (ap (λ zs. zs ++ words_in ys) (ap words_in none ∙ words_in_short [] (omega arith)))
 words_in-append (suc n) xs ys is =
     let eight : 8 ≤ length xs = omega arith in
     let rest : words_in (drop 8 xs ++ ys) ≡ words_in (drop 8 xs) ++ words_in ys = words_in-append n (drop 8 xs) ys (omega (arith, length-drop 8 xs)) in
     words_in_cut (xs ++ ys) (omega (arith, length-append xs ys))
     ∙ (ap (λ zs. from_le_bytes w64 zs ∷ words_in (drop 8 (xs ++ ys))) (take-append-le 8 xs ys eight)
-    ∙ (ap (λ zs. from_le_bytes w64 (take 8 xs) ∷ words_in zs) (append_drop 8 xs ys eight)
+    ∙ (ap (λ zs. from_le_bytes w64 (take 8 xs) ∷ words_in zs) (drop-append-le 8 xs ys eight)
     ∙ (ap (λ zs. from_le_bytes w64 (take 8 xs) ∷ zs) rest
     ∙ ap (λ zs. zs ++ words_in ys) (sym (words_in_cut xs eight)))))
-
--- so many words as eight times as many bytes are
-pub words_in-length : (n : ℕ) (xs : List ℕ) → length xs ≡ 8 * n → length (words_in xs) ≡ n
-words_in-length zero xs is = ap length (words_in_short xs (omega arith))
-words_in-length (suc n) xs is =
-    let rest : length (words_in (drop 8 xs)) ≡ n = words_in-length n (drop 8 xs) (omega (arith, length-drop 8 xs)) in
-    omega (arith, ap length (words_in_cut xs (omega arith)), rest)
 
 -- bytes that were read whole, and the words that they are
 pub words_read : (file piece words : List ℕ) (at n : ℕ) → length piece ≡ 8 * length words → length piece ≤ n → take n piece ≡ take (length piece) (drop at file) → words ≡ words_in piece → HasWords file at words

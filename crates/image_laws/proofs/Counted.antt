@@ -1,35 +1,17 @@
 -- The chain of segments: where they stand, and how many words they have.
-use Rattle.std.proofs.Common.{◌≡◌, ℕ, suc, zero, Bool, true, false, cond, not, ◌||◌, ◌+◌, ◌-◌, ◌*◌, ◌%◌, ◌≤◌, eqb, ltb, List, [], ◌∷◌, length, take, drop, refl, sym, ap, ◌∙◌, subst, arith, inl, inr, add-one, length-take, length-drop}
+use Rattle.std.proofs.Common.{◌≡◌, ℕ, suc, zero, Bool, true, false, not, ◌||◌, ◌+◌, ◌-◌, ◌*◌, ◌%◌, ◌≤◌, eqb, ltb, List, [], length, drop, refl, sym, ap, ◌∙◌, subst, arith, inl, inr, length-take, length-drop}
 use Rattle.std.proofs.lemmas.Bool.{cases_eq, cases_lt, eqb-true, ltb-false, or_parts, not-true, not-false}
 use Rattle.std.proofs.lemmas.List.Concat.{length-flat_map}
 use Rattle.std.proofs.lemmas.List.Sums.{sum_by-cons}
 use Rattle.std.specs.List.{sum_by, flat_map, slice_range}
-use Rattle.std.specs.Int.{w64, from_le_bytes}
-use Rattle.spur_graph.specs.Bytes.{words_in}
 use Rattle.spur_graph.specs.ImageFile.{header_bytes, heap_bytes, base}
-use Rattle.spur_graph.specs.Segments.{Segment, most_segments, bridge_bytes, greatest_end, end_of, left, is_bad_size, is_good, is_last, next_of, gap_of, bridge_first, segment, chain, segments, word_count, segment_words, all_words, total_words}
+use Rattle.spur_graph.specs.Segments.{Segment, most_segments, bridge_bytes, greatest_end, end_of, left, is_bad_size, is_good, is_last, gap_of, bridge_first, segment, chain, segments, word_count, segment_words, all_words, total_words}
 use Rattle.spur_graph.specs.ImageCauses.{most_words, needed}
 use Rattle.heap_segments.specs.Rising.{IsAbove, IsRising}
 use Rattle.heap_segments.proofs.Rising.{total-cons}
+use Rattle.heap_segments.proofs.ByteWords.{words_in-length}
+use Rattle.heap_segments.proofs.Chained.{linked, chain-cut, segment-first, segment-next, segments-chain}
 use Rattle.image_laws.specs.Counted.{RowsCount}
-
--- ---- words of bytes
-
-words_in_cut : (bytes : List ℕ) → 8 ≤ length bytes → words_in bytes ≡ from_le_bytes w64 (take 8 bytes) ∷ words_in (drop 8 bytes)
-unfolding words_in
-words_in_cut (a ∷ b ∷ c ∷ d ∷ e ∷ f ∷ g ∷ h ∷ rest) le = refl
-words_in_cut bytes le = absurd (omega arith)
-
-words_in_short : (bytes : List ℕ) → length bytes ≤ 7 → words_in bytes ≡ []
-unfolding words_in
-words_in_short (a ∷ b ∷ c ∷ d ∷ e ∷ f ∷ g ∷ h ∷ rest) le = absurd (omega arith)
-words_in_short bytes le = refl
-
-words_in-length : (n : ℕ) (xs : List ℕ) → length xs ≡ 8 * n → length (words_in xs) ≡ n
-words_in-length zero xs is = ap length (words_in_short xs (omega arith))
-words_in-length (suc n) xs is =
-    let rest : length (words_in (drop 8 xs)) ≡ n = words_in-length n (drop 8 xs) (omega (arith, length-drop 8 xs)) in
-    omega (arith, ap length (words_in_cut xs (omega arith)), rest)
 
 -- ---- one segment
 
@@ -52,21 +34,9 @@ can_be left size address e =
       low = ltb-false greatest_end (address + size) a.1;
     }
 
--- a link of the chain, and what follows
-abbrev linked : Bool → Bool → Segment → List Segment → List Segment
-linked good last s rest = cond good (s ∷ cond last [] rest) []
-
-chain-cut : (bytes : List ℕ) (i most : ℕ) → chain bytes i (suc most) ≡ linked (is_good bytes (segment bytes i)) (is_last bytes (segment bytes i)) (segment bytes i) (chain bytes (i + 1) most)
-unfolding chain
-chain-cut bytes i most = refl
-
 chain-none : (bytes : List ℕ) (i : ℕ) → chain bytes i 0 ≡ []
 unfolding chain
 chain-none bytes i = refl
-
-segment-next : (bytes : List ℕ) (i : ℕ) → segment bytes (i + 1) ≡ next_of bytes (segment bytes i)
-unfolding segment
-segment-next bytes i = rw add-one refl
 
 linked-rising : (good last : Bool) (s : Segment) (rest : List Segment) (floor : ℕ) → (good ≡ true → IsAbove floor s) → (good ≡ true → IsRising (end_of s) rest) → IsRising floor (linked good last s rest)
 linked-rising true true s rest floor a r = (a refl, tt)
@@ -122,21 +92,9 @@ chain-same bytes i (suc most) long =
 
 -- ---- all of them
 
-segments-chain : (bytes : List ℕ) → segments bytes ≡ chain bytes 0 most_segments
-unfolding segments
-segments-chain bytes = refl
-
 words-map : (bytes : List ℕ) → all_words bytes ≡ flat_map (segment_words bytes) (segments bytes)
 unfolding all_words
 words-map bytes = refl
-
-first-address : (bytes : List ℕ) → (segment bytes 0).address ≡ base bytes
-unfolding segment
-first-address bytes = refl
-
-first-place : (bytes : List ℕ) → (segment bytes 0).at ≡ header_bytes
-unfolding segment
-first-place bytes = refl
 
 pub rows_count : RowsCount
 rows_count bytes limits based small there =
@@ -146,9 +104,9 @@ rows_count bytes limits based small there =
     let of : length (all_words bytes) ≡ total_words (segments bytes) =
     ap length (words-map bytes) ∙ length-flat_map (segment_words bytes) (segments bytes) ∙ subst (λ ss. sum_by (λ s. length (segment_words bytes s)) ss ≡ total_words ss) (sym is) (chain-same bytes 0 most_segments long) in
     let total : 8 * total_words (segments bytes) ≤ left bytes (segment bytes 0) = subst (λ ss. 8 * total_words ss ≤ left bytes (segment bytes 0)) (sym is) (chain-total bytes 0 most_segments) in
-    let fit : 8 * length (all_words bytes) ≤ heap_bytes bytes = omega (arith, of, total, first-place bytes) in
+    let fit : 8 * length (all_words bytes) ≤ heap_bytes bytes = omega (arith, of, total, ap (λ (s : Segment). s.at) (segment-first bytes)) in
     record {
-      rising = subst (IsRising 0) (sym is) (chain-rising bytes 0 most_segments 0 (ap (λ n. n % 8) (first-address bytes) ∙ aligned) (omega arith));
+      rising = subst (IsRising 0) (sym is) (chain-rising bytes 0 most_segments 0 (ap (λ (s : Segment). s.address % 8) (segment-first bytes) ∙ aligned) (omega arith));
       of = of;
       fit = fit;
       few = elim (cases_lt most_words (needed bytes limits)) [ inl high ↦ absurd (small 0 high) | inr low ↦ omega (arith, fit, low) ];

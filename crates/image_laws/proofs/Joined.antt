@@ -1,7 +1,7 @@
 -- The passes joined.
 use Rattle.std.proofs.Common.{◌≡◌, ◌≢◌, ℕ, cond, ◌+◌, ◌<◌, ◌≤◌, ◌^◌, List, [], ◌∷◌, ◌++◌, length, map, get_or, refl, sym, ap, ◌∙◌, subst, arith, inl, inr, length-append}
 use Rattle.std.proofs.lemmas.Bool.{false≢true, cases_eq, eq-eqb, ne_eqb}
-use Rattle.std.proofs.lemmas.List.{append-nil}
+use Rattle.std.proofs.lemmas.List.{append-nil, nil_from_length}
 use Rattle.spur_graph.specs.declared.limits.Limits.{Limits}
 use Rattle.spur_graph.specs.Segments.{total_words}
 use Rattle.heap_segments.specs.Rising.{IsRising}
@@ -58,10 +58,6 @@ checked_can_settle bytes limits segs words mid k =
       loadable = (none_is_loadable (file_store segs words) mid k.resolved k.cut.formed k.five k.forwarders k.pages k.entries k.slots).1;
     }
 
-no_words : (xs : List ℕ) → length xs ≡ 0 → xs ≡ []
-no_words [] e = refl
-no_words (x ∷ xs) e = absurd (omega (arith, e))
-
 room_none : (n : ℕ) → n ≡ 0 → room_sizes n ≡ []
 room_none n e = ap (λ b. cond b [] (n ∷ [])) (eq-eqb n 0 e)
 
@@ -81,7 +77,7 @@ record HasRoom (limits : Limits) (words : List ℕ) (mid : Store) (all : List �
 has_room : (limits : Limits) (words : List ℕ) (mid : Store) (done room : List ℕ) → IsNamed mid → IsLoadable mid → AreSettled words mid done → IsRoom limits.room room → HasRoom limits words mid (done ++ room)
 has_room limits words mid done room n l a r = elim (cases_eq limits.room 0) [
   | inl none ↦
-      let e : done ++ room ≡ done = ap (λ ws. done ++ ws) (no_words room (r.long ∙ none)) ∙ append-nil done in
+      let e : done ++ room ≡ done = ap (λ ws. done ++ ws) (nil_from_length room (r.long ∙ none)) ∙ append-nil done in
       let h : HasRoom limits words mid done = record {
         behind = [];
         settled = a.settled;

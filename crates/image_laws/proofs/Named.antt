@@ -1,6 +1,7 @@
 -- Names of the words of a file.
 use Rattle.std.proofs.Common.{◌≡◌, ℕ, cond, not, ◌&&◌, ◌+◌, ◌-◌, ◌*◌, ◌/◌, ◌%◌, ◌<◌, eqb, ltb, List, [], ◌∷◌, length, sym, ap, ◌∙◌, subst, inl, inr, Some, None}
 use Rattle.std.proofs.lemmas.Bool.{cases_Bool, eqb-true, and_parts}
+use Rattle.std.proofs.lemmas.Option.{same_Some}
 use Rattle.std.specs.List.{Contains}
 use Rattle.spur_graph.specs.Segments.{Segment, word_count, total_words, word_in, address_in}
 use Rattle.spur_graph.specs.Chunks.{Cuts, chunks}
@@ -37,11 +38,8 @@ start_below segs words s of cut c =
     let stand : AreStarts words (length words) (chunks words) = starts-rise words (length words) (chunks words) cut in
     subst (λ n. s < n) of (subst (λ t. t < length words) c.2 (stand.below c.0 s c.1))
 
-some_same : {n m : ℕ} → Some n ≡ Some m → n ≡ m
-some_same {n} {m} e = cc
-
 pub file_has_names : FileHasNames
 file_has_names segs words rising of cut s t cs ct e =
     let a : word_in segs 0 (address_in segs s) ≡ Some s = has_its_word segs s rising (start_below segs words s of cut cs) in
     let b : word_in segs 0 (address_in segs t) ≡ Some t = has_its_word segs t rising (start_below segs words t of cut ct) in
-    some_same (sym a ∙ ap (word_in segs 0) e ∙ b)
+    same_Some _ _ (sym a ∙ ap (word_in segs 0) e ∙ b)

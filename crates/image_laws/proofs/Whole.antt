@@ -1,8 +1,7 @@
 -- Settled words stand for the bytes.
-use Rattle.std.proofs.Common.{◌≡◌, ℕ, ◌%◌, ◌^◌, List, [], ◌∷◌, ◌++◌, length, map, arith, refl, sym, ap, ◌∙◌, subst, Some, None}
+use Rattle.std.proofs.Common.{◌≡◌, ℕ, ◌%◌, ◌^◌, List, ◌++◌, length, map, sym, ap, ◌∙◌, subst, Some, None}
 use Rattle.std.specs.List.{Contains}
-use Rattle.std.specs.FinMap.{FinMap, get, empty, entries, from_entries, get-empty, len-entries, len-empty}
-use Rattle.spur_graph.specs.declared.answer.Value.{Value}
+use Rattle.std.specs.FinMap.{FinMap, get, empty, get-empty}
 use Rattle.spur_graph.specs.declared.limits.Limits.{Limits}
 use Rattle.spur_graph.specs.ImageFile.{special_word, last_hash}
 use Rattle.spur_graph.specs.Segments.{segments, all_words}
@@ -19,6 +18,7 @@ use Rattle.spur_graph.specs.Heaps.{View, Stands, heap_store, heap_graph, heap_ro
 use Rattle.spur_graph.specs.LoadedGraph.{file_name, past_name, loaded_graph, loaded_room}
 use Rattle.heap_cells.specs.Settled.{settled_word}
 use Rattle.heap_cells.specs.Settling.{AreNames, SameGraph, HaveChunks}
+use Rattle.heap_cells.proofs.HandleValues.{handle_values-empty}
 use Rattle.heap_cells.proofs.Sound.{settled_is_sound, settled_is_good}
 use Rattle.heap_cells.proofs.SameGraph.{settled_is_same_graph}
 use Rattle.heap_cells.proofs.SameRoom.{settled_is_same_room}
@@ -42,20 +42,11 @@ loaded_is_whole h special v l = record {
   few = l.few;
 }
 
-nothing : {X : Type 0} (xs : List X) → length xs ≡ 0 → xs ≡ []
-nothing [] e = refl
-nothing (x ∷ xs) e = absurd (omega (arith, e))
-
-no_values : (value : ℕ → Value) → handle_values value empty ≡ empty
-no_values value =
-    let none : entries (empty {X = ℕ} {R = handle_cmp}) ≡ [] = nothing (entries (empty {X = ℕ} {R = handle_cmp})) (sym (len-entries (empty {X = ℕ} {R = handle_cmp})) ∙ len-empty handle_cmp ℕ) in
-    ap (λ (es : List (Handle × ℕ)). from_entries {R = handle_cmp} (map {B = Handle × Value} (λ e. (e.0, value e.1)) es)) none
-
 -- the graph of a view without handles
 view_graph : (v : View) (special hash : ℕ) → v.handles ≡ empty → v.special ≡ special → v.hash ≡ hash → heap_graph v ≡ graph_of own_name (heap_store v.words) special empty hash (length v.words)
 view_graph v special hash none is state =
     (λ i. graph_of own_name (heap_store v.words) (is i) (handle_values (heap_value v.words) (none i)) (state i) (length v.words))
-    ∙ ap (λ m. graph_of own_name (heap_store v.words) special m hash (length v.words)) (no_values (heap_value v.words))
+    ∙ ap (λ m. graph_of own_name (heap_store v.words) special m hash (length v.words)) (handle_values-empty (heap_value v.words))
 
 module _ (bytes : List ℕ) (limits : Limits) (mid : Store) (room : List Chunk) (v : View) (f : IsFile bytes (segments bytes) (all_words bytes)) (k : IsHeapOf bytes limits (segments bytes) (all_words bytes) mid room v) where
   same : IsSame (image_store bytes) mid

@@ -15,6 +15,7 @@ use Rattle.heap_cells.specs.RowWrites.{IsFreeChunk, Appends}
 use Rattle.heap_cells.proofs.CellKinds.{there_starts, moved_is}
 use Rattle.heap_cells.proofs.Members.{in_list}
 use Rattle.heap_cells.proofs.Cutting.{stands}
+use Rattle.heap_cells.proofs.Writing.{chunk_by}
 use Rattle.heap_cells.proofs.Appending.{shifted_start, shifted_size, appended}
 use Rattle.image_settle.specs.Rooms.{IsRoom, IsAlone, HasRoom, room_chunk, room_chunks, free_fields}
 
@@ -22,9 +23,6 @@ use Rattle.image_settle.specs.Rooms.{IsRoom, IsAlone, HasRoom, room_chunk, room_
 
 abbrev record_chunk : ℕ → ℕ → ℕ → ℕ → Chunk
 record_chunk at start size slots = record { at = at; start = start; size = size; slots = slots }
-
-abbrev chunk_by : ℕ → Bool → ℕ → Chunk
-chunk_by at twice slots = record_chunk at (cond twice (at + 1) at) (cond twice 2 1 + max 1 slots) slots
 
 abbrev room_by : ℕ → ℕ → Bool → Chunk
 room_by at room long = record_chunk at (cond long (at + 1) at) room (cond long (room - 2) (room - 1))

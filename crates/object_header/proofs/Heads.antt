@@ -1,6 +1,6 @@
 -- What the head of a chunk tells, read off the chain of its faults.
 use Rattle.std.proofs.Common.{◌≡◌, ℕ, Bool, true, false, cond, ◌+◌, ◌-◌, ◌≤◌, max, List, length, get_or, refl, sym, ap, ◌∙◌, inl, inr, arith, nat_lt, nat_eq, not, ◌&&◌, Result, Ok, Err}
-use Rattle.std.proofs.lemmas.Bool.{false≢true, cases_Bool}
+use Rattle.std.proofs.lemmas.Bool.{false≢true, cases_Bool, not-false}
 use Rattle.std.proofs.lemmas.Bool.Decides.{nat_tests}
 use Rattle.object_header.specs.Field.{field_of}
 use Rattle.object_header.specs.Formats.{unused_of, is_method, pointer_slots_of}
@@ -8,13 +8,9 @@ use Rattle.object_header.specs.Head.{head_of, body_of, formed, count_of, class_o
 use Rattle.object_header.specs.declared.head.Head.{Head}
 use Rattle.object_header.specs.declared.head.HeadError.{HeadError}
 
-ok-else : (b : Bool) (e : HeadError) (r : Result Head HeadError) (h : Head) → cond b (Err e) r ≡ Ok h → (b ≡ false) × (r ≡ Ok h)
+pub ok-else : (b : Bool) (e : HeadError) (r : Result Head HeadError) (h : Head) → cond b (Err e) r ≡ Ok h → (b ≡ false) × (r ≡ Ok h)
 ok-else true e r h k = absurd cc
 ok-else false e r h k = (refl, k)
-
-not_not : (b : Bool) → not b ≡ false → b ≡ true
-not_not true k = refl
-not_not false k = absurd cc
 
 same : (g h : Head) → ◌≡◌ {A = Result Head HeadError} (Ok g) (Ok h) → g ≡ h
 same g h e = cc
@@ -97,7 +93,7 @@ head-read ws h e =
           let b = ok-else (nat_lt (length ws) 2) _ _ h (rw big at a.1) in
           let c = ok-else (not (nat_eq (count_of (get_or ws 1 0)) 255)) _ _ h b.1 in
           let r = from_body ws 1 (field_of 0 56 (get_or ws 0 0)) h c.1 in
-          record { twice = ap (λ n. nat_eq (count_of (get_or ws n 0)) 255) r.leads ∙ (not_not (nat_eq (count_of (get_or ws 1 0)) 255) c.0 ∙ sym big); read = rw big r }
+          record { twice = ap (λ n. nat_eq (count_of (get_or ws n 0)) 255) r.leads ∙ (not-false (nat_eq (count_of (get_or ws 1 0)) 255) c.0 ∙ sym big); read = rw big r }
       | inr small ↦
           let b : body_of ws 0 (count_of (get_or ws 0 0)) ≡ Ok h = rw small at a.1 in
           let r = from_body ws 0 (count_of (get_or ws 0 0)) h b in

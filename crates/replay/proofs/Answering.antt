@@ -241,8 +241,3 @@ pub last_cut : (did : Result (Unit {0}) SinkFault) (now last : Files → Text �
 last_cut (Ok x) now last kept so_far after same some answers = tt
 last_cut (Err e) now last kept so_far after same some answers = λ first files script text before so.
     open_cut first (now files script) (last files script) files text kept before so_far after e (same files script) some so (answers files script (open_line_of text) so.keeps)
-
--- what holds, holds of an error
-pub on_err : {X E : Type 0} (r : Result X E) (P : Type 0) → P → OnErr r P
-on_err (Ok x) P is = tt
-on_err (Err e) P is = is

@@ -1,7 +1,8 @@
 -- What commands do, by the values of their handles.
 use Rattle.std.proofs.Common.{◌≡◌, inl, inr, arith, ℕ, ◌^◌, refl, ap, sym, subst, ◌∙◌, Option, Some, None, set}
+use Rattle.std.proofs.lemmas.Bool.{lt-leb}
 use Rattle.std.proofs.lemmas.Bool.Decides.{leb_tells}
-use Rattle.std.specs.Prelude.{◌<◌, ◌≤◌, ◌-◌, [], ◌∷◌, ◌↔◌, Bool, Result, Ok, Err, IfOk, IsOk, ℤ, pos, negsuc, nat_le, false}
+use Rattle.std.specs.Prelude.{◌≤◌, ◌-◌, [], ◌∷◌, ◌↔◌, Bool, Result, Ok, Err, IfOk, IsOk, ℤ, pos, negsuc}
 use Rattle.std.proofs.Math.Facts.{ltb_yes, yes_ltb, leb_yes, yes_leb}
 use Rattle.spur_graph.specs.declared.answer.Value.{Value}
 use Rattle.spur_graph.specs.declared.answer.Value.TheVariants.{Ref}
@@ -87,13 +88,10 @@ pub becomes : (old new : View) (g : Graph) {h : Graph} → Becomes old new h →
 becomes old new g is same = (is.0 ∙ same, is.1)
 
 -- a SmallInteger's number is in range exactly where it has a word
-not_le : (a b : ℕ) → b < a → nat_le a b ≡ false
-not_le a b below = elim (leb_tells a b) [ inl (is, le) ↦ absurd (omega (arith, le, below)) | inr (is, lt) ↦ is ]
-
 int_word : (n : ℤ) (word : Result ℕ Range) → (IsOk word ↔ IsValue (values.Int n)) → no_word word ≡ int_range n
-int_word (pos n) (Ok word) range = let ok = range.0 refl in rw (not_le (2 ^ 60) n (ltb_yes ok.1.lt)) refl
+int_word (pos n) (Ok word) range = let ok = range.0 refl in rw (lt-leb (2 ^ 60) n (ltb_yes ok.1.lt)) refl
 int_word (pos n) (Err e) range = elim (leb_tells (2 ^ 60) n) [ inl (is, le) ↦ rw (is) refl | inr (is, lt) ↦ let wrong = range.1 (record { le = tt }, record { lt = yes_ltb lt }) in cc ]
-int_word (negsuc n) (Ok word) range = let ok = range.0 refl in rw (not_le (2 ^ 60) n (omega (arith, leb_yes ok.0.le))) refl
+int_word (negsuc n) (Ok word) range = let ok = range.0 refl in rw (lt-leb (2 ^ 60) n (omega (arith, leb_yes ok.0.le))) refl
 int_word (negsuc n) (Err e) range = elim (leb_tells (2 ^ 60) n) [ inl (is, le) ↦ rw (is) refl | inr (is, lt) ↦ let low : n ≤ 2 ^ 60 - 1 = omega (arith, lt) in let wrong = range.1 (record { le = yes_leb low }, record { lt = tt }) in cc ]
 
 pub int_row : (g : Graph) (k : ℕ) (h : Text) (n m : ℤ) (word : Result ℕ Range) (out : Option Refusal) → m ≡ n → (IsOk word ↔ IsValue (values.Int m)) → first (value_row g k h word) ≡ out → first (handles g k h ∷ int_range n ∷ []) ≡ out

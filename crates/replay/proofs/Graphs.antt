@@ -1,7 +1,6 @@
 -- What a heap's graph tells of the words of the heap.
 use Rattle.std.proofs.Common.{◌≡◌, inl, inr, ◌≤◌, ◌<◌, ℕ, List, [], ◌∷◌, length, map, get_or, refl, ap, sym, ◌∙◌, Option, Some, None, Bool, true, false, cond, arith}
-use Rattle.std.proofs.lemmas.Bool.{le-leb, false≢true, cases_Bool, eqb-true, and_parts}
-use Rattle.std.proofs.lemmas.Bool.Decides.{leb_tells}
+use Rattle.std.proofs.lemmas.Bool.{le-leb, lt-leb, false≢true, cases_Bool, eqb-true, and_parts}
 use Rattle.std.specs.Prelude.{nat_le, nat_eq, ◌==◌, ◌&&◌, not, IfOk, IsSome}
 use Rattle.std.specs.Result.{result_err}
 use Rattle.std.specs.Option.{option_map, unwrap_or, ok_or, is_none, is_some}
@@ -25,8 +24,9 @@ use Rattle.heap_cells.proofs.Starts.{starts-rise}
 use Rattle.spur_heap.specs.Views.{IsOrdinary, store, node_in}
 use Rattle.replay.specs.Sessions.{graph_of, room_of, value_in}
 use Rattle.replay.specs.Commands.{Becomes, node_of}
+use Rattle.handle_table.proofs.Bound.{remove-absent}
 use Rattle.heap_cells.proofs.HandleValues.{get-handle_values}
-use Rattle.replay.proofs.Held.{len-handle_values, handle_values-insert, handle_values-remove, remove-none}
+use Rattle.replay.proofs.Held.{len-handle_values, handle_values-insert, handle_values-remove}
 use Rattle.heap_cells.proofs.Members.{in_filter, filter_in}
 use Rattle.replay.proofs.Tables.{find-listed, find-absent}
 
@@ -56,7 +56,7 @@ handle_dropped v new k h is =
     (ap graph_of is ∙ dropped, ap room_of is)
 
 pub handle_kept : (v new : View) (k : ℕ) (h : List ℕ) → get v.handles (k, h) ≡ None → new ≡ record v { handles = remove v.handles (k, h) } → new ≡ v
-handle_kept v new k h none is = is ∙ (λ i. record v { handles = remove-none v.handles (k, h) none i })
+handle_kept v new k h none is = is ∙ (λ i. record v { handles = sym (remove-absent v.handles (k, h) none) i })
 
 -- whether a handle is held
 pub known : (v : View) (k : ℕ) (h : List ℕ) (word : ℕ) → get v.handles (k, h) ≡ Some word → unknown (graph_of v) k (h ∷ []) ≡ None
@@ -86,9 +86,6 @@ none_before None none = refl
 none_before (Some word) none = absurd (none refl)
 
 -- whether there is room for a handle
-not_le : (a b : ℕ) → b < a → nat_le a b ≡ false
-not_le a b below = elim (leb_tells a b) [ inl (is, le) ↦ absurd (omega (arith, le, below)) | inr (is, lt) ↦ is ]
-
 untested : (b : Bool) (why : Refusal) → test (b && false) why ≡ None
 untested true why = refl
 untested false why = refl
@@ -100,7 +97,7 @@ no_room_left v k h none full =
 
 pub room_left : (v : View) (k : ℕ) (h : List ℕ) → len v.handles < 65536 → handles (graph_of v) k h ≡ None
 room_left v k h few =
-    let counted : nat_le 65536 (len (graph_of v).handles) ≡ false = ap (nat_le 65536) (handles_counted v) ∙ not_le 65536 (len v.handles) few in
+    let counted : nat_le 65536 (len (graph_of v).handles) ≡ false = ap (nat_le 65536) (handles_counted v) ∙ lt-leb 65536 (len v.handles) few in
     rw (counted) (untested (is_none (held (graph_of v) k h)) r.Handles)
 
 pub room_held : (v : View) (k : ℕ) (h : List ℕ) (o : Option ℕ) → get v.handles (k, h) ≡ o → is_some o ≡ true → handles (graph_of v) k h ≡ None

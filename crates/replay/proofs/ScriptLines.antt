@@ -1,5 +1,6 @@
 -- The lines of a text that comes in parts.
 use Rattle.std.proofs.Common.{◌≡◌, ◌≢◌, ◌<◌, ◌≤◌, ◌+◌, ℕ, zero, suc, List, [], ◌∷◌, ◌++◌, length, take, drop, get_or, refl, sym, ap, ◌∙◌, append_assoc, append-nil, Bool, true, false, cond, not, true≢false, nat_lt, Some, None, Result, Ok, Err, arith, min, length-drop, length-take}
+use mathlib.Core.Bool.{or-true}
 use Rattle.std.specs.Result.{IsOk, OnOk}
 use Rattle.std.specs.List.{position, position_or_len}
 use Rattle.std.proofs.lemmas.Bool.{ltb-false, eqb-true, false≢true}
@@ -8,7 +9,7 @@ use Rattle.std.proofs.lemmas.List.Folds.{list_any-append}
 use Rattle.std.proofs.lemmas.List.Sums.{prefix_len-le-length}
 use Rattle.std.proofs.lemmas.List.Quantifiers.{position-Some}
 use Rattle.std.proofs.Math.Seq.{take-append-add, drop-cons}
-use Rattle.std.specs.Prelude.{◌==◌, ◌||◌}
+use Rattle.std.specs.Prelude.{◌==◌}
 use Rattle.spur_graph.specs.Bytes.{Text}
 use Rattle.spur_graph.specs.Words.{onto_first}
 use Rattle.spur_graph.specs.Lines.{lines_of, ended_lines_of, open_line_of, onto_ended, has_line_feed}
@@ -110,12 +111,8 @@ pub ended_parts : (a c : Text) → ended_lines_of (a ++ c) ≡ ended_lines_of a 
 ended_parts a c = cut_parts ended_lines_of (record { feed = λ b t is. (feed_first b t is).ended; onto = onto_ended; byte = λ b t is. (byte_first b t is).ended; first = λ b line lines. refl }) a c
 
 -- a line feed in a part is one of the whole
-or_true : (v : Bool) → (v || true) ≡ true
-or_true true = refl
-or_true false = refl
-
 has_behind : (a c : Text) → has_line_feed c ≡ true → has_line_feed (a ++ c) ≡ true
-has_behind a c has = list_any-append (λ b. b == 10) a c ∙ rw has (or_true (has_line_feed a))
+has_behind a c has = list_any-append (λ b. b == 10) a c ∙ rw has (or-true (has_line_feed a))
 
 has_before : (a c : Text) → has_line_feed a ≡ true → has_line_feed (a ++ c) ≡ true
 has_before a c has = list_any-append (λ b. b == 10) a c ∙ rw has refl

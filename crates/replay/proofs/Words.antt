@@ -1,5 +1,5 @@
 -- The words of a command line.
-use Rattle.std.proofs.Common.{◌≡◌, ◌<◌, ◌≤◌, ◌+◌, ℕ, List, [], ◌∷◌, ◌++◌, drop, length, map, min, get_or, ap, sym, refl, zero, suc, ◌∙◌, inr, arith, Option, Some, None}
+use Rattle.std.proofs.Common.{◌≡◌, ◌<◌, ◌≤◌, ◌+◌, ℕ, List, [], ◌∷◌, ◌++◌, drop, length, map, min, get_or, ap, sym, ◌∙◌, inr, arith, Option, Some, None}
 use Rattle.std.specs.Prelude.{codes}
 use Rattle.std.specs.Option.{IfSome, IfNone}
 use Rattle.spur_graph.specs.Bytes.{Text}
@@ -28,11 +28,6 @@ split_words ws front options image script n size are call counted is =
     let long : length ws ≡ length options + 3 = ap length e ∙ omega arith in
     let three : n ≡ 3 = omega (arith, is, counted, long) in
     ap (drop n) e ∙ ap (λ m. drop m (codes "replay" ∷ image ∷ script ∷ options)) three
-
-pub map-drop : {X Y : Type 0} (f : X → Y) (n : ℕ) (xs : List X) → map f (drop n xs) ≡ drop n (map f xs)
-map-drop f zero xs = refl
-map-drop f (suc n) [] = refl
-map-drop f (suc n) (x ∷ xs) = map-drop f n xs
 
 pub none_is : {X : Type 0} (r : Option X) (P : Type 0) → P → IfNone r P
 none_is None P is = is

@@ -2,6 +2,7 @@
 use Rattle.std.proofs.Common.{◌≡◌, ℕ, List, [], ◌∷◌, Option, Some, None, true, false, cond, refl, sym, subst}
 use Rattle.std.specs.Prelude.{codes, option_and_then}
 use Rattle.std.specs.Str.{bytes_eq}
+use Rattle.std.proofs.lemmas.Option.{same_Some}
 use Rattle.std.proofs.lemmas.Slice.Eq.{bytes_eq-Decides}
 use Rattle.spur_graph.specs.Bytes.{Text}
 use Rattle.spur_graph.specs.Words.{name_in, file_in, number_in, hex_in, signed_in}
@@ -16,12 +17,9 @@ branch P w k x y f is here there = elim (bytes_eq w k) as (λ v. bytes_eq w k �
   | false ↦ λ e g. there g
 ] refl is
 
-some_same : (x f : Form) → Some x ≡ Some f → x ≡ f
-some_same x f is = cc
-
 -- what holds of one command holds of an equal one
 at : (P : Form → Type 0) (x f : Form) → Some x ≡ Some f → P x → P f
-at P x f is p = subst P (some_same x f is) p
+at P x f is p = subst P (same_Some x f is) p
 
 -- a test of a keyword whose command is at hand
 rule : (P : Text → Form → Type 0) (w k : Text) (x f : Form) (y : Option Form) → cond (bytes_eq w k) (Some x) y ≡ Some f → P k x → (y ≡ Some f → P w f) → P w f

@@ -1,5 +1,6 @@
 -- Finite maps by handles. A map whose values go through a function has as many keys.
-use Rattle.std.proofs.Common.{◌≡◌, suc, Bool, true, false, cond, ◌&&◌, T, List, [], ◌∷◌, length, refl, sym, ap, ◌∙◌, subst, Some, Option}
+use Rattle.std.proofs.Common.{◌≡◌, Bool, true, false, cond, ◌&&◌, T, List, [], ◌∷◌, length, map, refl, sym, ap, ◌∙◌, subst, Some, Option}
+use Rattle.std.proofs.lemmas.List.{length-map}
 use Rattle.std.proofs.lemmas.Map.Lookups.{exact_pairs}
 use Rattle.std.specs.declared.cmp.Ordering.{Ordering}
 use Rattle.std.specs.Ordering.{nat_cmp, eq_by_cmp, is_lt}
@@ -18,12 +19,7 @@ chosen f false x y = refl
 module _ {K X Y : Type 0} (R : K → K → Ordering) (f : X → Y) where
   -- the entries with their values mapped
   abbrev mapped : List (K × X) → List (K × Y)
-  mapped [] = []
-  mapped (e ∷ es) = (e.0, f e.1) ∷ mapped es
-
-  length-mapped : (es : List (K × X)) → length (mapped es) ≡ length es
-  length-mapped [] = refl
-  length-mapped (e ∷ es) = ap (λ n. suc n) (length-mapped es)
+  mapped es = map (λ e. (e.0, f e.1)) es
 
   below-mapped : (k : K) (es : List (K × X)) → below_all R k (mapped es) ≡ below_all R k es
   below-mapped k [] = refl
@@ -33,7 +29,7 @@ module _ {K X Y : Type 0} (R : K → K → Ordering) (f : X → Y) where
   sorted-mapped [] = refl
   sorted-mapped (e ∷ es) = λ i. below-mapped e.0 es i && sorted-mapped es i
 
-  find-mapped : (q : K) (es : List (K × X)) → find R q (mapped es) ≡ option_map f (find R q es)
+  pub find-mapped : (q : K) (es : List (K × X)) → find R q (mapped es) ≡ option_map f (find R q es)
   find-mapped q [] = refl
   find-mapped q (e ∷ es) = ap (cond (eq_by_cmp R q e.0) (Some (f e.1))) (find-mapped q es) ∙ chosen f (eq_by_cmp R q e.0) (Some e.1) (find R q es)
 
@@ -44,7 +40,7 @@ module _ {K X Y : Type 0} (R : K → K → Ordering) (f : X → Y) where
       let rises : T (is_sorted R es) = subst T (sym (sorted-mapped (entries m))) (entries_sorted m) in
       let made : FinMap R Y = from_sorted es in
       let same : n ≡ made = same_map o exact n made (λ q. is q ∙ ap (option_map f) (get-entries m q) ∙ sym (find-mapped q (entries m)) ∙ sym (get-from_sorted R es q rises)) in
-      ap len same ∙ len-entries made ∙ ap length (entries-from_sorted R es rises) ∙ length-mapped (entries m) ∙ sym (len-entries m)
+      ap len same ∙ len-entries made ∙ ap length (entries-from_sorted R es rises) ∙ length-map (entries m) (λ e. (e.0, f e.1)) ∙ sym (len-entries m)
 
 -- handles that compare alike are one
 pub exact_handles : IsAntisymmetric handle_cmp

@@ -3,3 +3,4 @@ pub mod Renaming
 pub mod BaseImages
 pub mod Scripts
 pub mod HandleMaps
+pub mod RowNumbers

@@ -1,4 +1,5 @@
-//! The object graph machine: what an image and each line of a script mean, and the plain types of commands and answers.
+//! The object graph machine: what an image and each line of a script mean, the plain types of commands and answers, and the numbers that the
+//! format of an image fixes.
 //!
 //! Everything above is proved against the definitions in `specs/`: values and nodes, the graph, the grammar of
 //! a script, the refusals of each command in their order, a step and a run, and the graph of an image. The machine

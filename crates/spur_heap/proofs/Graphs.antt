@@ -1,6 +1,6 @@
 -- The graph and the room of a store and of the same with other words in one ordinary object.
 use Rattle.std.proofs.Common.{◌≡◌, ◌≢◌, ℕ, Bool, true, cond, not, ◌&&◌, ◌==◌, List, [], ◌∷◌, map, refl, sym, ap, ◌∙◌, inl, inr, Some}
-use Rattle.std.proofs.lemmas.Bool.{false≢true, cases_Bool, cases_eq, and_parts, false_from_ne_true}
+use Rattle.std.proofs.lemmas.Bool.{cases_Bool, cases_eq, and_parts, false_from_ne_true}
 use Rattle.std.proofs.lemmas.List.Elements.{filter_agree}
 use Rattle.std.specs.Option.{unwrap_or}
 use Rattle.std.specs.List.{filter, range_with_len, sum_by, count_by}
@@ -19,18 +19,11 @@ use Rattle.spur_graph.specs.CellGraph.{read, node_of, nodes_of, has_class, class
 use Rattle.spur_graph.specs.CellRoom.{room_of, free_sizes, spot_of, ascending}
 use Rattle.spur_graph.specs.Heaps.{own_name, handle_values}
 use Rattle.heap_cells.proofs.Bodies.{with_words}
-use Rattle.heap_cells.proofs.Members.{In}
+use Rattle.heap_cells.proofs.Members.{In, in_filter}
 use Rattle.heap_cells.proofs.Finding.{same_key, key_same}
 use Rattle.spur_heap.proofs.Changing.{changed, Change, cell-here, cell-other, kept, lead-same, reference-same, ordinary-same, internal-same, start-same, nil_slot-same, entry-same, has_class-same}
 
 -- ---- tables
-
-kept_among : (test : ℕ → Bool) (s : ℕ) → test s ≡ true → (ts : List ℕ) → In ts s → In (filter test ts) s
-kept_among test s on [] k = absurd k
-kept_among test s on (t ∷ ts) k = elim (cases_Bool (test t)) [
-  | inl yes_there ↦ rw yes_there (elim k [ inl e ↦ inl e | inr m ↦ inr (kept_among test s on ts m) ])
-  | inr off ↦ rw off (elim k [ inl e ↦ absurd (false≢true (sym off ∙ ap test e ∙ on)) | inr m ↦ kept_among test s on ts m ])
-]
 
 module _ {X : Type 0} (f g : ℕ → X) (s : ℕ) (x : X) (is : g s ≡ x) (others : (t : ℕ) → t ≢ s → g t ≡ f t) where
   find_other : (k : ℕ) → k ≢ s → (ts : List ℕ) → find nat_cmp k (map (λ t. (t, g t)) ts) ≡ find nat_cmp k (map (λ t. (t, f t)) ts)
@@ -92,7 +85,7 @@ module _ {old : Store} {s : ℕ} {b : Body} {ws : List ℕ} (k : Change old s b 
       ∙ table_changed (λ t. node_of own_name old (body_at old t)) (λ t. node_of own_name (changed old s (with_words b ws)) (body_at (changed old s (with_words b ws)) t)) s (node_of own_name old (with_words b ws))
       (node-same (body_at (changed old s (with_words b ws)) s) ∙ ap (λ c. node_of own_name old (body_of c)) (cell-here k))
       (λ t n. node-same (body_at (changed old s (with_words b ws)) t) ∙ ap (λ c. node_of own_name old (body_of c)) (cell-other k t n))
-      (ordinary_starts old) (kept_among (is_ordinary old) s k.ordinary old.starts m)
+      (ordinary_starts old) (in_filter (is_ordinary old) old.starts s m k.ordinary)
 
   classes-same : classes_of own_name (changed old s (with_words b ws)) ≡ classes_of own_name old
   unfolding classes_of

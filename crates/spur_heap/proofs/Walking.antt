@@ -2,14 +2,15 @@
 use Rattle.std.proofs.Common.{◌≡◌, ◌≢◌, ℕ, suc, zero, true, false, not, eqb, ltb, ◌&&◌, ◌+◌, ◌<◌, ◌≤◌, List, [], ◌∷◌, drop, length, get_or, refl, sym, ap, ◌∙◌, subst, arith, inl, inr}
 use Rattle.std.proofs.lemmas.List.{length-map}
 use Rattle.std.proofs.lemmas.Bool.{cases_Bool, cases_eq, cases_lt, eq-eqb, ne_eqb, lt-ltb, le-ltb, and_right, false_from_ne_true}
-use Rattle.object_header.specs.Fields.{Fields, fields_of}
+use Rattle.object_header.specs.Fields.{fields_of}
 use Rattle.object_header.specs.Head.{class_of}
 use Rattle.heap_walk.specs.Starts.{has_start}
 use Rattle.heap_walk.specs.declared.starts.StartMap.{StartMap}
 use Rattle.spur_graph.specs.Chunks.{Chunk, chunk_of, IsChunk, Cuts, chunks, slots_of}
-use Rattle.spur_graph.specs.Cells.{cell_from, is_start, read_cell, start_named}
+use Rattle.spur_graph.specs.Cells.{is_start, read_cell, start_named}
 use Rattle.spur_graph.specs.Heaps.{heap_to}
 use Rattle.heap_cells.specs.Rows.{starts_of}
+use Rattle.heap_cells.proofs.CellKinds.{start_from}
 use Rattle.heap_cells.proofs.Members.{In}
 use Rattle.heap_cells.proofs.Cutting.{chunk_of-lies, chunk_of-at, ends_after, cell-at, start-in, shape, stands}
 use Rattle.heap_cells.proofs.Starts.{in_order, start-read}
@@ -56,15 +57,6 @@ left words at end zero [] t l = absurd (omega (arith, t, l))
 left words at end (suc k) [] t l = absurd (omega (arith, t, l))
 left words at end zero (c ∷ cs) t l = omega arith
 left words at end (suc k) (c ∷ cs) t l = let m = left words at end k cs t l in omega (arith, m)
-
-start_from : (f : Fields) (next : ℕ) (ws : List ℕ) → is_start (cell_from f next ws) ≡ not (eqb f.class 0)
-start_from f next ws = elim (cases_Bool (eqb f.class 0)) [
-  | inl on ↦ rw on refl
-  | inr off ↦ elim (cases_Bool (eqb f.class 8)) [
-    | inl moved ↦ rw (off, moved) refl
-    | inr there ↦ rw (off, there) refl
-  ]
-]
 
 module _ (words : List ℕ) (k : AreSound words) (at : ℕ) (border : IsBorder words at) (inside : at < length words) where
   pub here : IsChunkAt words at (length words) border.0 (chunks words)

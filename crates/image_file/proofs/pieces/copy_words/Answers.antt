@@ -2,7 +2,7 @@ use Rattle.std.proofs.Common.{◌≡◌, ◌≤◌, ◌∷◌, ◌++◌, [], ari
 use Rattle.std.specs.Int.{w64, from_le_bytes}
 use Rattle.std.proofs.lemmas.List.{take_more_set, take_all}
 use Rattle.spur_graph.specs.Bytes.{words_in}
-use Rattle.image_file.proofs.PieceWords.{words_in_cut, words_in_short}
+use Rattle.heap_segments.proofs.ByteWords.{words_in_cut, words_in_short}
 use Rattle.image_file.proofs.pieces.copy_words.Goals as goal
 
 pub words-init : goal.words-init

@@ -1,11 +1,12 @@
 use Rattle.std.proofs.Common.{◌∙◌, refl, rules}
+use Rattle.drill_files.proofs.Stores.{on_err}
 use Rattle.replay.specs.Sessions.{state_in}
-use Rattle.replay.proofs.Answering.{line_passed, all_passed, part_passed, on_err}
+use Rattle.replay.proofs.Answering.{line_passed, all_passed, part_passed}
 use Rattle.replay.proofs.runs.answer_piece.Goals as goal
 
 pub returns-in_err-answer_ended-clause-part : goal.returns-in_err-answer_ended-clause-part
 returns-in_err-answer_ended-clause-part g c =
-    on_err c.from_residual.result _
+    on_err c.from_residual.result
     (part_passed (state_in c.args.session.now.heap) (state_in c.lines.session.heap) (state_in c.answer_ended.new.session.heap) c.args.open_line.now c.lines.open_line c.args.piece.now c.lines.rest.now c.in-Some.line.now c.in-Some.behind.now
     (g.K.Sink.so_far c.args.out.now) (g.K.Sink.so_far c.lines.out) (g.K.Sink.so_far c.answer_ended.new.out) c.in_err-answer_ended.field-0.0 (λ files script. refl) c.in-Some.ensures.whole c.in-Some.ensures.first c.lines.invariant.passed
     c.in_err-answer_ended.ensures.answer)
