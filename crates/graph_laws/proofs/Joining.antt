@@ -29,7 +29,7 @@ module _ (p q : ℕ → ℕ) where
   rename_node-twice : (n : Node) → rename_node q (rename_node p n) ≡ rename_node (λ a. q (p a)) n
   rename_node-twice n = ap (λ vs. record n { pointers = vs }) (map-twice (rename p) (rename q) (rename (λ a. q (p a))) rename-twice n.pointers)
 
-joined_graphs : {F G H : Graph} {p pb q qb : ℕ → ℕ} → Iso F G p pb → Iso G H q qb → Iso F H (λ a. q (p a)) (λ a. pb (qb a))
+pub joined_graphs : {F G H : Graph} {p pb q qb : ℕ → ℕ} → Iso F G p pb → Iso G H q qb → Iso F H (λ a. q (p a)) (λ a. pb (qb a))
 joined_graphs {F = F} {G = G} {H = H} {p = p} {pb = pb} {q = q} {qb = qb} k l = record {
   left = λ a. ap pb (l.left (p a)) ∙ k.left a;
   right = λ a. ap q (k.right (qb a)) ∙ l.right a;

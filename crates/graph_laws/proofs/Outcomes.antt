@@ -1,10 +1,11 @@
 -- States that differ in names alone give the same answer to a line.
-use Rattle.std.proofs.Common.{◌≡◌, ℕ, false, ◌||◌, List, [], length, slice_index, slice_index_or, slice_set, refl, sym, ap, ◌∙◌, subst, Some, None, Option, le-leb, zero-le}
+use Rattle.std.proofs.Common.{◌≡◌, ℕ, false, ◌||◌, List, [], length, slice_index, slice_index_or, slice_set, refl, sym, ap, ◌∙◌, subst, inl, inr, Some, None, Option, le-leb, zero-le}
 use Rattle.std.proofs.lemmas.List.{length-map, map-set}
 use Rattle.std.proofs.lemmas.Option.{none-some}
 use Rattle.std.proofs.Math.ListN.{get_or-map}
 use Rattle.spur_graph.specs.declared.answer.Answer.{Answer}
 use Rattle.spur_graph.specs.declared.answer.Answer.TheVariants as answers
+use Rattle.spur_graph.specs.declared.answer.Refusal.{Refusal}
 use Rattle.spur_graph.specs.declared.answer.Refusal.TheVariants as r
 use Rattle.spur_graph.specs.declared.answer.Value.{Value}
 use Rattle.spur_graph.specs.declared.answer.Value.TheVariants.{Ref}
@@ -18,9 +19,9 @@ use Rattle.spur_graph.specs.State.{State, value_at, name_at, node_of_handle}
 use Rattle.spur_graph.specs.Shows.{shown}
 use Rattle.spur_graph.specs.Classes.{class_value}
 use Rattle.spur_graph.specs.Refusals.{test, index_in}
-use Rattle.spur_graph.specs.Refused.{row}
-use Rattle.spur_graph.specs.Does.{Outcome, outcome, Is}
-use Rattle.spur_graph.specs.Step.{long, syntax, refusal, done, Passes, Renamed}
+use Rattle.spur_graph.specs.Refused.{row, refused}
+use Rattle.spur_graph.specs.Does.{Outcome, outcome, Is, Chooses, Does}
+use Rattle.spur_graph.specs.Step.{long, syntax, refusal, done, RefusesLater, Refuses, Passes, Leaves, Renamed}
 use Rattle.graph_laws.specs.FixedNames.{AnswersAlike}
 use Rattle.graph_laws.proofs.Values.{value_at-renamed, name_at-renamed, node_of_handle-renamed, same_value-renamed, shown-renamed, class_value-renamed}
 use Rattle.graph_laws.proofs.Refusals.{none_in_row, no_immediate, refused-renamed}
@@ -64,7 +65,7 @@ module _ {s t : State} (k : Renamed s t) (m : ℕ) where
       ∙ ap (λ vs. record n { pointers = vs }) (sym (map-set (rename k.p) n.pointers i v))
 
   -- what a command answers and does, where nothing refuses it. A node that is written has the slot or the unit, so that its name had a node
-  alike : (form : Form) → Passes s m form → Passes t m form → Alike (outcome s m form) (outcome t m form)
+  alike : (form : Form) → refused s m form ≡ None → refused t m form ≡ None → Alike (outcome s m form) (outcome t m form)
   alike (Special h) e f = (refl, bound-renamed k m h s.graph.special t.graph.special k.graph.special)
   alike (Nil h) e f = (refl, bound-renamed k m h (Ref s.graph.nil) (Ref t.graph.nil) (ap Ref k.graph.nil))
   alike (Yes h) e f = (refl, bound-renamed k m h (Ref s.graph.yes) (Ref t.graph.yes) (ap Ref k.graph.yes))
@@ -107,18 +108,50 @@ module _ {s t : State} (k : Renamed s t) (m : ℕ) where
       (ap answers.Truth (same ∙ same_value-renamed k.graph (value_at s.graph m a) (value_at s.graph m b)), k)
   alike form e f = refl
 
+  -- a command chooses among the same answers under other names; no command has a choice
+  chosen-alike : (form : Form) (answer : Answer) (new : State) → Chooses t m form answer new → (end : State) × Chooses s m form answer end × Renamed end new
+  chosen-alike form answer new chooses = absurd chooses
+
+  -- what refuses a command while it is carried out is the same under other names; no command has such refusals
+  later-there : (form : Form) (why : Refusal) → RefusesLater s m form why → RefusesLater t m form why
+  later-there form why later = absurd later
+
+  later-here : (form : Form) (why : Refusal) → RefusesLater t m form why → RefusesLater s m form why
+  later-here form why later = absurd later
+
+  -- a refusal leaves the state as it was
+  leaves-alike : (form : Form) (why : Refusal) (new : State) → Leaves t m form why new → (end : State) × Leaves s m form why end × Renamed end new
+  leaves-alike form why new leaves = (s, refl, subst (λ x. Renamed s x) (sym leaves) k)
+
 -- an outcome is had in both states
 had : (o u : Option Outcome) (answer : Answer) (new : State) → Alike o u → Is u answer new → (end : State) × Is o answer end × Renamed end new
 had None u answer new a is = absurd (subst (λ x. Is x answer new) a is)
 had (Some o) None answer new a is = absurd a
 had (Some o) (Some u) answer new a is = (o.1, (is.0 ∙ a.0, refl), subst (λ x. Renamed o.1 x) (sym is.1) a.1)
 
+module _ {s t : State} (k : Renamed s t) (m : ℕ) (form : Form) where
+  refused-alike : refused s m form ≡ refused t m form
+  refused-alike = sym (refused-renamed s t k.p k.back k.graph m form)
+
+  refuses-alike : (why : Refusal) → Refuses t m form why → Refuses s m form why
+  refuses-alike why (inl row) = inl (refused-alike ∙ row)
+  refuses-alike why (inr later) = inr (refused-alike ∙ later.0, later-here k m form why later.1)
+
+  passes-alike : Passes t m form → Passes s m form
+  passes-alike passes = (refused-alike ∙ passes.0, λ why later. passes.1 why (later-there k m form why later))
+
+  does-alike : (answer : Answer) (new : State) → Passes t m form → Does t m form answer new → (end : State) × Does s m form answer end × Renamed end new
+  does-alike answer new passes (inl is) =
+      let found = had (outcome s m form) (outcome t m form) answer new (alike k m form (passes-alike passes).0 passes.0) is in
+      (found.0, inl found.1, found.2)
+  does-alike answer new passes (inr chooses) = let found = chosen-alike k m form answer new chooses in (found.0, inr found.1, found.2)
+
 pub answers_alike : AnswersAlike
 answers_alike s t new text answer k (long l) = (s, long l, k)
 answers_alike s t new text answer k (syntax l none) = (s, syntax l none, k)
 answers_alike s t new text answer k (refusal m form why l reads refuses leaves) =
-    (s, refusal m form why l reads (sym (refused-renamed s t k.p k.back k.graph m form) ∙ refuses) refl, subst (λ x. Renamed s x) (sym leaves) k)
+    let found = leaves-alike k m form why new leaves in
+    (found.0, refusal m form why l reads (refuses-alike k m form why refuses) found.1, found.2)
 answers_alike s t new text answer k (done m form l reads passes does) =
-    let first_passes : Passes s m form = sym (refused-renamed s t k.p k.back k.graph m form) ∙ passes in
-    let found = had (outcome s m form) (outcome t m form) answer new (alike k m form first_passes passes) does in
-    (found.0, done m form l reads first_passes found.1, found.2)
+    let found = does-alike k m form answer new passes does in
+    (found.0, done m form l reads (passes-alike k m form passes) found.1, found.2)

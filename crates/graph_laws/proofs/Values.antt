@@ -36,15 +36,16 @@ node_or-renamed : (p : ℕ → ℕ) (o : Option Node) → unwrap_or (option_map 
 node_or-renamed p None = refl
 node_or-renamed p (Some n) = refl
 
-module _ {G H : Graph} {p back : ℕ → ℕ} (k : Iso G H p back) where
-  pub one_to_one : (a b : ℕ) → p a ≡ p b → a ≡ b
-  one_to_one a b e = sym (k.left a) ∙ ap back e ∙ k.left b
+-- what has a way back takes two numbers to one where they are one
+pub one_to_one : (p back : ℕ → ℕ) → ((a : ℕ) → back (p a) ≡ a) → (a b : ℕ) → p a ≡ p b → a ≡ b
+one_to_one p back left a b e = sym (left a) ∙ ap back e ∙ left b
 
+module _ {G H : Graph} {p back : ℕ → ℕ} (k : Iso G H p back) where
   -- two names are one where the names for them are
   pub same_name : (a b : ℕ) → (p a == p b) ≡ (a == b)
   same_name a b = elim (cases_eq a b) [
     | inl e ↦ eq-eqb (p a) (p b) (ap p e) ∙ sym (eq-eqb a b e)
-    | inr n ↦ ne_eqb (p a) (p b) (λ e. n (one_to_one a b e)) ∙ sym (ne_eqb a b n)
+    | inr n ↦ ne_eqb (p a) (p b) (λ e. n (one_to_one p back k.left a b e)) ∙ sym (ne_eqb a b n)
   ]
 
   pub same_value-renamed : (v w : Value) → same_value (rename p v) (rename p w) ≡ same_value v w

@@ -5,10 +5,10 @@ use Rattle.std.proofs.lemmas.Bool.{cases_Bool, cases_eq, ne_eqb, eq-eqb}
 use Rattle.std.proofs.lemmas.List.{length-append, length-drop, map-append, get_or_append_left, get_or-append-add, take-append-le, drop-append-le}
 use Rattle.object_header.specs.Fields.{Fields, fields_of}
 use Rattle.object_header.specs.Head.{class_of}
-use Rattle.spur_graph.specs.Chunks.{Chunk, leads, chunk_of, IsChunk, Cuts, slots_of}
+use Rattle.object_header.specs.Chunks.{Chunk, leads, chunk_of, IsChunk, Cuts, slots_of}
 use Rattle.spur_graph.specs.Cells.{Empty, read_cell, cell_in, cell_from, start_named, is_moved, target_of}
 use Rattle.heap_cells.specs.RowWrites.{IsFreeChunk, Appends}
-use Rattle.heap_cells.proofs.Cutting.{chunk_of-lies, chunk_of-at, stands, Cuts-append, cell-at, chunks-are}
+use Rattle.heap_cells.proofs.Cutting.{chunk_of-lies, chunk_of-at, stands, Cuts-append, cell-at, chunks-are, cuts-in_order}
 use Rattle.heap_cells.proofs.Writing.{row-kept, keeps-same, cell-same}
 
 -- ---- a chunk at another place
@@ -40,7 +40,7 @@ cell_from-same f a b ws same = elim (cases_eq f.class 0) [
   ]
 ]
 
-read-longer : (to : ℕ → Option ℕ) (words room : List ℕ) (c : Chunk) → c.start + 1 < length words → c.start + 1 + c.slots ≤ length words
+pub read-longer : (to : ℕ → Option ℕ) (words room : List ℕ) (c : Chunk) → c.start + 1 < length words → c.start + 1 + c.slots ≤ length words
     → (is_moved (read_cell to words c) ≡ true → target_of (read_cell to words c) < length words) → read_cell to (words ++ room) c ≡ read_cell to words c
 unfolding read_cell
 read-longer to words room c low fits named =
@@ -93,7 +93,7 @@ appended to words room cs t free named =
     let chunk : IsChunk new n c = record { is = ap (chunk_of n) (sym first); twice = ap leads head ∙ free.twice ∙ ap leads (sym first) } in
     let end : n + c.size ≡ length new = ap (λ k. n + k) (shifted_size n w ∙ free.size) ∙ sym (length-append words room) in
     let kept = row-kept words new 0 n cs t (λ d m.
-    let s = stands words 0 n cs d t m in
+    let s = stands words 0 n cs d (cuts-in_order words 0 n cs t) m in
     keeps-same words new d (get_or_append_left words room 0 d.at (omega (arith, s.lies.lead, s.lies.room, s.lies.before))) (get_or_append_left words room 0 d.start (omega (arith, s.lies.room, s.lies.before)))) in
     let row : Cuts new 0 (length new) (cs ++ c ∷ []) = Cuts-append new 0 n (length new) cs (c ∷ []) kept (chunk, end) in
     let nothing : read_cell to new c ≡ Empty = read-free to new c (ap class_of head ∙ free.free) in
@@ -105,8 +105,8 @@ appended to words room cs t free named =
       cell = λ s.
           cell-front to new cs (c ∷ []) s (cell-one to new c s nothing)
           ∙ cell-same to words new cs s (λ d m e.
-          let k = stands words 0 n cs d t m in
-          let here : cell_in to words cs s ≡ read_cell to words d = ap (cell_in to words cs) (sym e) ∙ cell-at to words 0 n cs d t m in
+          let k = stands words 0 n cs d (cuts-in_order words 0 n cs t) m in
+          let here : cell_in to words cs s ≡ read_cell to words d = ap (cell_in to words cs) (sym e) ∙ cell-at to words 0 n cs d (cuts-in_order words 0 n cs t) m in
           read-longer to words room d (omega (arith, k.lies.room, k.lies.before)) (omega (arith, k.lies.slots, k.lies.before))
           (λ is. subst (λ x. target_of x < n) here (named s (ap is_moved here ∙ is))));
     }

@@ -1,6 +1,6 @@
 -- Tests of numbers below a bound, and of what may be there.
 use Rattle.std.proofs.Common.{◌≡◌, ℕ, suc, zero, Bool, true, false, ◌&&◌, ◌||◌, ◌<◌, refl, sym, ap, ◌∙◌, arith, inl, inr, Some, None, Option}
-use Rattle.std.proofs.lemmas.Bool.{false≢true, cases_eq, eqb-true, or_from, or_left, or_right}
+use Rattle.std.proofs.lemmas.Bool.{false≢true, cases_eq, eqb-true, or_from, or_left, or_right, or_cases}
 use Rattle.std.specs.Option.{option_map}
 use Rattle.spur_graph.specs.Cells.{any_below}
 use Rattle.spur_graph.specs.Ordinary.{is_at, passes}
@@ -21,6 +21,15 @@ any_below-has f zero j l e = absurd (omega arith)
 any_below-has f (suc n) j l e = elim (cases_eq j n) [
   | inl same ↦ or_left _ _ (sym (ap f same) ∙ e)
   | inr other ↦ or_right _ _ (any_below-has f n j (omega arith) e)
+]
+
+-- where the test holds below the bound
+pub any_below-found : (f : ℕ → Bool) (n : ℕ) → any_below f n ≡ true → (j : ℕ) × (j < n) × (f j ≡ true)
+unfolding any_below
+any_below-found f zero e = absurd (false≢true e)
+any_below-found f (suc n) e = elim (or_cases (f n) (any_below f n) e) [
+  | inl on ↦ (n, omega arith, on)
+  | inr more ↦ let r = any_below-found f n more in (r.0, omega (arith, r.1), r.2)
 ]
 
 pub at-named : (s : ℕ) (o : Option ℕ) → is_at s o ≡ true → o ≡ Some s

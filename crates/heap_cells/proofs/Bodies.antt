@@ -108,3 +108,13 @@ method_some b l = some b.format (length b.words) (literals_of (get_or b.words 0 
   where
     some : (f n m : ℕ) → is_method f ≡ true → 0 < pointer_slots_of f n m
     some f n m method = grind (arith, nat_tests, method)
+
+-- ---- another body of the same class and format
+
+pub pointer_count-like : (b b' : Body) → b'.format ≡ b.format → IsLike b b'.words → pointer_count b' ≡ pointer_count b
+unfolding pointer_count
+pointer_count-like b b' format like = ap (λ f. pointer_slots_of f (length b'.words) (literals_of (get_or b'.words 0 0))) format ∙ pointer_count-same b b'.words like
+
+pub is_formed-like : (b b' : Body) → b'.class ≡ b.class → b'.format ≡ b.format → IsLike b b'.words → is_formed b' ≡ is_formed b
+unfolding is_formed pointer_count
+is_formed-like b b' class format like = (λ x. let c : Body = record b' { class = class x; format = format x } in is_formed c) ∙ is_formed-same b b'.words like

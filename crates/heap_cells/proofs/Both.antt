@@ -4,13 +4,13 @@ use Rattle.std.proofs.lemmas.Bool.{false≢true, cases_eq, cases_Bool, eq-eqb, n
 use Rattle.std.proofs.lemmas.List.{get_or_append_left}
 use Rattle.spur_graph.specs.Value.{is_immediate_word}
 use Rattle.spur_graph.specs.Chains.{follow}
-use Rattle.spur_graph.specs.Cells.{Body, Cell, Empty, Moved, There, Store, is_start, is_moved, is_there, target_of, body_of, is_formed, pointer_count, first, final}
+use Rattle.spur_graph.specs.Cells.{Body, Cell, Empty, Moved, There, Store, is_start, is_moved, is_there, target_of, body_of, pointer_count, first, final}
 use Rattle.spur_graph.specs.Ordinary.{body_at}
 use Rattle.heap_cells.specs.Settled.{map_front, map_from, settled_word, settled_root, settled_words, settled_cell, IsLoadable, IsNamed, IsSettled}
 use Rattle.heap_cells.proofs.CellKinds.{there_starts, there_is_not_moved, moved_starts}
-use Rattle.heap_cells.proofs.Chains.{follow-end, follow-step, follow-none, follow-more, follow-same, good_forwarder_ends, final-end}
+use Rattle.heap_cells.proofs.Chains.{moves, forwards, follow-end, follow-step, follow-none, follow-more, follow-same, good_forwarder_ends, final-end}
 use Rattle.heap_cells.proofs.Fronts.{length-front, length-from, front-first, drop-front}
-use Rattle.heap_cells.proofs.Bodies.{IsLike, with_words, first_tag, is_formed-same, pointer_count-same}
+use Rattle.heap_cells.proofs.Bodies.{IsLike, with_words, first_tag}
 
 -- words that are loaded, before and after
 pub record Both (old new : Store) : Type 0 where
@@ -60,7 +60,8 @@ words-other h s b n m = cond-false (eqb s (first h 4)) _ _ (ne_eqb s (first h 4)
 pub immediate_stays : (h : Store) (w : ℕ) → is_immediate_word w ≡ true → settled_word h w ≡ w
 immediate_stays h w e = cond-true (is_immediate_word w) _ _ e
 
-integer_word : (w : ℕ) → w % 8 ≡ 1 → is_immediate_word w ≡ true
+-- a SmallInteger is an immediate
+pub integer_word : (w : ℕ) → w % 8 ≡ 1 → is_immediate_word w ≡ true
 integer_word w e = or_left _ _ (or_left _ _ (eq-eqb (w % 8) 1 e))
 
 module _ {old new : Store} (k : Both old new) where
@@ -94,8 +95,8 @@ module _ {old new : Store} (k : Both old new) where
   final-same s = elim (cases_Bool (is_moved (old.cell s))) [
     | inl on ↦
         let end : is_moved (old.cell (final old s)) ≡ false = there_is_not_moved (old.cell (final old s)) (ends_there s on) in
-        follow-same (λ t. is_moved (new.cell t)) (λ t. is_moved (old.cell t)) (λ t. target_of (new.cell t)) (λ t. target_of (old.cell t)) moved-same target-same new.names s
-        ∙ follow-more (λ t. is_moved (old.cell t)) (λ t. target_of (old.cell t)) old.names new.names s k.settled.names end
+        follow-same (moves new) (moves old) (forwards new) (forwards old) moved-same target-same new.names s
+        ∙ follow-more (moves old) (forwards old) old.names new.names s k.settled.names end
     | inr off ↦ final-end new s (moved-same s ∙ off) ∙ sym (final-end old s off)
   ]
 
@@ -113,10 +114,10 @@ module _ {old new : Store} (k : Both old new) where
       t : ℕ
       t = target_of (old.cell s)
 
-      stuck : (n : ℕ) → is_there (old.cell (follow (λ u. is_moved (old.cell u)) (λ u. target_of (old.cell u)) n s)) ≡ true → is_there (old.cell t) ≡ false → is_moved (old.cell t) ≡ false → ⊥
-      stuck zero e none end = false≢true (sym (there_is_not_moved (old.cell s) (sym (ap (λ u. is_there (old.cell u)) (follow-none (λ u. is_moved (old.cell u)) (λ u. target_of (old.cell u)) s)) ∙ e)) ∙ on)
+      stuck : (n : ℕ) → is_there (old.cell (follow (moves old) (forwards old) n s)) ≡ true → is_there (old.cell t) ≡ false → is_moved (old.cell t) ≡ false → ⊥
+      stuck zero e none end = false≢true (sym (there_is_not_moved (old.cell s) (sym (ap (λ u. is_there (old.cell u)) (follow-none (moves old) (forwards old) s)) ∙ e)) ∙ on)
       stuck (suc n) e none end =
-          let f : follow (λ u. is_moved (old.cell u)) (λ u. target_of (old.cell u)) (suc n) s ≡ t = follow-step (λ u. is_moved (old.cell u)) (λ u. target_of (old.cell u)) n s on ∙ follow-end (λ u. is_moved (old.cell u)) (λ u. target_of (old.cell u)) n t end in
+          let f : follow (moves old) (forwards old) (suc n) s ≡ t = follow-step (moves old) (forwards old) n s on ∙ follow-end (moves old) (forwards old) n t end in
           false≢true (sym none ∙ sym (ap (λ u. is_there (old.cell u)) f) ∙ e)
 
   -- an object has as many words as before, and a method the same first one
@@ -150,20 +151,8 @@ module _ {old new : Store} (k : Both old new) where
     | inr not_three ↦ ap (drop (pointer_count (body_at old s))) (words-other old s (body_at old s) not_four not_three) ∙ drop-front (settled_word old) (pointer_count (body_at old s)) (body_at old s).words
   ]
 
-  pub format-same : (s : ℕ) → is_there (old.cell s) ≡ true → (body_at new s).format ≡ (body_at old s).format
-  format-same s e = ap (λ (b : Body). b.format) (body-settled s e)
-
-  pub hash-same : (s : ℕ) → is_there (old.cell s) ≡ true → (body_at new s).hash ≡ (body_at old s).hash
-  hash-same s e = ap (λ (b : Body). b.hash) (body-settled s e)
-
   pub words-settled : (s : ℕ) → is_there (old.cell s) ≡ true → (body_at new s).words ≡ settled_words old s (body_at old s)
   words-settled s e = ap (λ (b : Body). b.words) (body-settled s e)
 
   pub length-same : (s : ℕ) → is_there (old.cell s) ≡ true → length (body_at new s).words ≡ length (body_at old s).words
   length-same s e = ap length (words-settled s e) ∙ (like s e).long
-
-  pub count-same : (s : ℕ) → is_there (old.cell s) ≡ true → pointer_count (body_at new s) ≡ pointer_count (body_at old s)
-  count-same s e = ap pointer_count (body-settled s e) ∙ pointer_count-same (body_at old s) (settled_words old s (body_at old s)) (like s e)
-
-  pub formed-same : (s : ℕ) → is_there (old.cell s) ≡ true → is_formed (body_at new s) ≡ is_formed (body_at old s)
-  formed-same s e = ap is_formed (body-settled s e) ∙ is_formed-same (body_at old s) (settled_words old s (body_at old s)) (like s e)

@@ -37,6 +37,13 @@ unfolding follow
 follow-same m m' g g' e k zero s = refl
 follow-same m m' g g' e k (suc n) s = follow-same m m' g g' e k n (hop m g s) ∙ ap (follow m' g' n) (λ i. cond (e s i) (k s i) s)
 
+-- where forwarders of a store stand, and the starts that they name
+abbrev pub moves : Store → ℕ → Bool
+moves h s = is_moved (h.cell s)
+
+abbrev pub forwards : Store → ℕ → ℕ
+forwards h s = target_of (h.cell s)
+
 -- a forwarder that is not bad leads to an object
 pub good_forwarder_ends : (h : Store) (s : ℕ) → is_bad_forwarder h s ≡ false → is_moved (h.cell s) ≡ true → is_there (h.cell (final h s)) ≡ true
 good_forwarder_ends h s good on = not-false _ (sym (ap (λ b. b && not (is_there (h.cell (final h s)))) on) ∙ good)
@@ -44,7 +51,7 @@ good_forwarder_ends h s good on = not-false _ (sym (ap (λ b. b && not (is_there
 -- what is no forwarder leads to itself
 pub final-end : (h : Store) (s : ℕ) → is_moved (h.cell s) ≡ false → final h s ≡ s
 unfolding final
-final-end h s e = follow-end (λ t. is_moved (h.cell t)) (λ t. target_of (h.cell t)) h.names s e
+final-end h s e = follow-end (moves h) (forwards h) h.names s e
 
 pub final-there : (h : Store) (s : ℕ) → is_there (h.cell s) ≡ true → final h s ≡ s
 final-there h s e = final-end h s (there_is_not_moved (h.cell s) e)

@@ -82,7 +82,7 @@ module _ (name : ℕ → ℕ) (h : Store) (special : ℕ) (handles : FinMap hand
   unfolding ordinary_starts
   ordinary_of s k = (filter_in (is_ordinary h) h.starts s k).1
 
-  node_here : (s : ℕ) → is_ordinary h s ≡ true → get (nodes_of name h) (name s) ≡ Some (node_of name h (body_at h s))
+  pub node_here : (s : ℕ) → is_ordinary h s ≡ true → get (nodes_of name h) (name s) ≡ Some (node_of name h (body_at h s))
   unfolding nodes_of
   node_here s e = get-at name (λ t. node_of name h (body_at h t)) s (ordinary_starts h)
       (λ t k same. ap (λ u. node_of name h (body_at h u)) (sym (c.once s t (c.inside s (starts s e)) (c.inside t (starts t (ordinary_of t k))) same)))

@@ -1,5 +1,5 @@
 -- Words of which some are mapped.
-use Rattle.std.proofs.Common.{◌≡◌, ℕ, suc, zero, ◌+◌, ◌<◌, List, [], ◌∷◌, map, take, drop, length, get_or, refl, ap, ◌∙◌, arith}
+use Rattle.std.proofs.Common.{◌≡◌, ℕ, suc, zero, ◌+◌, ◌<◌, List, [], ◌∷◌, drop, length, get_or, refl, ap, ◌∙◌, arith}
 use Rattle.heap_cells.specs.Settled.{map_front, map_from}
 
 pub length-front : (g : ℕ → ℕ) (n : ℕ) (ws : List ℕ) → length (map_front g n ws) ≡ length ws
@@ -12,11 +12,6 @@ front-in g zero i ws l k = absurd (omega arith)
 front-in g (suc n) i [] l k = absurd (omega arith)
 front-in g (suc n) zero (w ∷ ws) l k = refl
 front-in g (suc n) (suc i) (w ∷ ws) l k = front-in g n i ws (omega arith) (omega arith)
-
-pub take-front : (g : ℕ → ℕ) (n : ℕ) (ws : List ℕ) → take n (map_front g n ws) ≡ map g (take n ws)
-take-front g zero ws = refl
-take-front g (suc n) [] = refl
-take-front g (suc n) (w ∷ ws) = ap (λ xs. g w ∷ xs) (take-front g n ws)
 
 pub drop-front : (g : ℕ → ℕ) (n : ℕ) (ws : List ℕ) → drop n (map_front g n ws) ≡ drop n ws
 drop-front g zero ws = refl

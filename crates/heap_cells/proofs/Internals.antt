@@ -1,14 +1,15 @@
--- The internal objects are the same.
+-- The internal objects, and how a place names a page before and after settling.
 use Rattle.std.proofs.Common.{◌≡◌, ◌≢◌, ◌⊎◌, ℕ, true, false, cond, not, ◌&&◌, ◌||◌, ◌+◌, ◌*◌, ◌/◌, ◌%◌, ◌<◌, ◌≤◌, eqb, ltb, length, get_or, refl, sym, ap, ◌∙◌, arith, inl, inr, Some, None, Option}
-use Rattle.std.proofs.lemmas.Bool.{false≢true, cases_eq, cases_Bool, eq-eqb, ne_eqb, lt-ltb, le-ltb, and_parts, and_cases, and_right, not-false, not-true, or_from, cond-true, cond-false}
+use Rattle.std.proofs.lemmas.Bool.{false≢true, cases_eq, cases_Bool, eq-eqb, ne_eqb, lt-ltb, le-ltb, and_parts, and_cases, and_right, not-false, not-true, or_from, or_cases, eqb-true, cond-true, cond-false}
 use Rattle.std.specs.Option.{unwrap_or}
-use Rattle.spur_graph.specs.Cells.{Store, is_there, first, any_below}
-use Rattle.spur_graph.specs.Ordinary.{roots_slots, page_places, page_entries, is_at, passes, body_at, root_slot, tells, is_nil_slot, is_first, is_page_body, is_page, is_internal, is_ordinary}
+use Rattle.spur_graph.specs.Cells.{Store, is_start, is_there, first, any_below}
+use Rattle.spur_graph.specs.Ordinary.{roots_slots, page_places, body_at, root_slot, tells, is_nil_slot, is_first, is_page_body, is_page, is_internal, is_ordinary}
 use Rattle.spur_graph.specs.Heaps.{heap_to}
 use Rattle.heap_cells.specs.Settled.{settled_root, word_of, IsLoadable, IsNamed}
 use Rattle.heap_cells.proofs.Fronts.{from-in}
-use Rattle.heap_cells.proofs.Below.{any_below-same, any_below-none, any_below-has, at-named, passed, passes-same, and-same}
-use Rattle.heap_cells.proofs.Both.{Both, there-same, words-roots, words-settled, format-same, length-same, first-five}
+use Rattle.heap_cells.proofs.Below.{any_below-none, any_below-has, any_below-found, at-named, passed}
+use Rattle.heap_cells.proofs.CellKinds.{there_starts}
+use Rattle.heap_cells.proofs.Both.{Both, words-roots, words-settled, first-five}
 
 pub heap-named : (s : ℕ) → heap_to (word_of s) ≡ Some s
 heap-named s =
@@ -43,6 +44,37 @@ place_cases {h} loadable i l = elim (and_cases (not (is_nil_slot h i)) (not (is_
   | inl e ↦ inl (not-false _ e)
   | inr e ↦ inr (not-false _ e)
 ]
+
+-- a place names a start
+pub place_named : {h : Store} → IsLoadable h → (i : ℕ) → i < page_places → (s : ℕ) × (h.to (root_slot h i) ≡ Some s)
+place_named {h} loadable i l = elim (place_cases loadable i l) [
+  | inl e ↦ (first h 0, at-named (first h 0) (h.to (root_slot h i)) e)
+  | inr e ↦ ((a_page h i e).0, (a_page h i e).1.named)
+]
+
+-- what a place names is an object
+pub place_there : {h : Store} → IsLoadable h → (i s : ℕ) → i < page_places → h.to (root_slot h i) ≡ Some s → is_there (h.cell s) ≡ true
+place_there {h} loadable i s l e = elim (place_cases loadable i l) [
+  | inl nil ↦ let n = at-named (first h 0) (h.to (root_slot h i)) nil in let is : first h 0 ≡ s = cc in ap (λ t. is_there (h.cell t)) (sym is) ∙ loadable.objects 0 (omega arith)
+  | inr page ↦ let g = a_page h i page in let n = g.1.named in let is : g.0 ≡ s = cc in ap (λ t. is_there (h.cell t)) (sym is) ∙ g.1.there
+]
+
+-- an internal object is an object
+pub internal_there : (h : Store) → IsLoadable h → (s : ℕ) → is_internal h s ≡ true → is_there (h.cell s) ≡ true
+unfolding is_internal
+internal_there h loadable s on = elim (or_cases (eqb s (first h 3) || eqb s (first h 4)) (not (eqb s (first h 0)) && any_below (λ i. tells h i s) page_places) on) [
+  | inl front ↦ elim (or_cases (eqb s (first h 3)) (eqb s (first h 4)) front) [
+    | inl e ↦ ap (λ t. is_there (h.cell t)) (eqb-true s (first h 3) e) ∙ loadable.objects 3 (omega arith)
+    | inr e ↦ ap (λ t. is_there (h.cell t)) (eqb-true s (first h 4) e) ∙ loadable.objects 4 (omega arith)
+  ]
+  | inr told ↦
+      let r = any_below-found (λ i. tells h i s) page_places (and_parts (not (eqb s (first h 0))) (any_below (λ i. tells h i s) page_places) told).1 in
+      place_there loadable r.0 s r.1 (at-named s (h.to (root_slot h r.0)) r.2)
+]
+
+-- and so something starts there
+pub internal-starts : (h : Store) → IsLoadable h → (s : ℕ) → is_internal h s ≡ true → is_start (h.cell s) ≡ true
+internal-starts h k s e = there_starts (h.cell s) (internal_there h k s e)
 
 module _ {h : Store} (named : IsNamed h) (loadable : IsLoadable h) where
   apart : (i j : ℕ) → i < j → j < 5 → first h i ≢ first h j
@@ -90,50 +122,7 @@ module _ {old new : Store} (k : Both old new) where
   pub root-top : (i : ℕ) → page_places ≤ i → i < roots_slots → root_slot new i ≡ 8 * first new 0
   root-top i m l = root-at i l ∙ cond-false (ltb i page_places) _ _ (le-ltb i page_places m) ∙ ap (λ s. 8 * s) (sym (first-five k 0 (omega arith)))
 
-  place_named : (i : ℕ) → i < page_places → (s : ℕ) × (old.to (root_slot old i) ≡ Some s)
-  place_named i l = elim (place_cases k.loadable i l) [
-    | inl e ↦ (first old 0, at-named (first old 0) (old.to (root_slot old i)) e)
-    | inr e ↦ ((a_page old i e).0, (a_page old i e).1.named)
-  ]
-
   pub root-named : (i : ℕ) → i < page_places → new.to (root_slot new i) ≡ old.to (root_slot old i)
   root-named i l =
-      let p = place_named i l in
+      let p = place_named k.loadable i l in
       to-heap (root_slot new i) ∙ ap heap_to (root-settled i l) ∙ ap (λ o. heap_to (word_of (unwrap_or o (first old 0)))) p.1 ∙ heap-named p.0 ∙ sym p.1
-
-  pub tells-same : (i s : ℕ) → i < page_places → tells new i s ≡ tells old i s
-  tells-same i s l = ap (is_at s) (root-named i l)
-
-  pub nil_slot-same : (i : ℕ) → i < page_places → is_nil_slot new i ≡ is_nil_slot old i
-  nil_slot-same i l = ap (λ s. tells new i s) (first-five k 0 (omega arith)) ∙ tells-same i (first old 0) l
-
-  is_first-same : (s : ℕ) → is_first new s ≡ is_first old s
-  is_first-same s = any_below-same (λ j. eqb (first new j) s) (λ j. eqb (first old j) s) 5 (λ j l. ap (λ t. eqb t s) (first-five k j l))
-
-  page_body-same : (s : ℕ) → is_there (old.cell s) ≡ true → is_page_body (body_at new s) ≡ is_page_body (body_at old s)
-  page_body-same s e = λ i. eqb (format-same k s e i) 2 && eqb (length-same k s e i) page_entries
-
-  pub is_page-same : (i : ℕ) → i < page_places → is_page new i ≡ is_page old i
-  unfolding is_page
-  is_page-same i l =
-      ap (passes (λ s. is_there (new.cell s) && is_page_body (body_at new s) && not (is_first new s) && not (any_below (λ j. tells new j s) i))) (root-named i l)
-      ∙ passes-same (λ s. is_there (new.cell s) && is_page_body (body_at new s) && not (is_first new s) && not (any_below (λ j. tells new j s) i))
-      (λ s. is_there (old.cell s) && is_page_body (body_at old s) && not (is_first old s) && not (any_below (λ j. tells old j s) i)) (old.to (root_slot old i)) test
-    where
-      test : (s : ℕ) → (is_there (new.cell s) && is_page_body (body_at new s) && not (is_first new s) && not (any_below (λ j. tells new j s) i)) ≡ (is_there (old.cell s) && is_page_body (body_at old s) && not (is_first old s) && not (any_below (λ j. tells old j s) i))
-      test s =
-          let front = and-same (is_there (new.cell s)) (is_there (old.cell s)) (is_page_body (body_at new s)) (is_page_body (body_at old s)) (there-same k s) (page_body-same s) in
-          let none = any_below-same (λ j. tells new j s) (λ j. tells old j s) i (λ j m. tells-same j s (omega (arith, l, m))) in
-          λ x. front x && not (is_first-same s x) && not (none x)
-
-  pub internal-same : (s : ℕ) → is_internal new s ≡ is_internal old s
-  unfolding is_internal
-  internal-same s =
-      let three = first-five k 3 (omega arith) in
-      let four = first-five k 4 (omega arith) in
-      let nil = first-five k 0 (omega arith) in
-      let some = any_below-same (λ i. tells new i s) (λ i. tells old i s) page_places (λ i l. tells-same i s l) in
-      λ x. eqb s (three x) || eqb s (four x) || (not (eqb s (nil x)) && some x)
-
-  pub ordinary-same : (s : ℕ) → is_ordinary new s ≡ is_ordinary old s
-  ordinary-same s = λ x. there-same k s x && not (internal-same s x)

@@ -2,7 +2,7 @@
 use Rattle.std.proofs.Common.{◌≡◌, ◌⊎◌, ℕ, suc, zero, Bool, true, cond, ◌+◌, ◌<◌, ◌≤◌, List, [], ◌∷◌, ◌++◌, length, get_or, refl, sym, ap, ◌∙◌, subst, inl, inr, arith}
 use Rattle.std.proofs.lemmas.Bool.{false≢true, cases_Bool, cases_eq}
 use Rattle.std.specs.List.{Contains, filter, range_with_len}
-use Rattle.spur_graph.specs.Chunks.{Chunk}
+use Rattle.object_header.specs.Chunks.{Chunk}
 use Rattle.heap_cells.specs.Rows.{starts_of}
 
 abbrev pub In : {X : Type 0} → List X → X → Type 0
@@ -45,6 +45,20 @@ in_either (y ∷ xs) ys x k = elim k [
   | inl e ↦ inl (inl e)
   | inr m ↦ elim (in_either xs ys x m) [ inl a ↦ inl (inr a) | inr b ↦ inr b ]
 ]
+
+pub in_left : {X : Type 0} → (xs ys : List X) (x : X) → In xs x → In (xs ++ ys) x
+in_left [] ys x k = absurd k
+in_left (y ∷ xs) ys x k = elim k [ inl e ↦ inl e | inr m ↦ inr (in_left xs ys x m) ]
+
+pub in_right : {X : Type 0} → (xs ys : List X) (x : X) → In ys x → In (xs ++ ys) x
+in_right [] ys x k = k
+in_right (y ∷ xs) ys x k = inr (in_right xs ys x k)
+
+-- the starts of the front of a row
+pub start-front : (xs ys : List Chunk) (j : ℕ) → j < length xs → get_or (starts_of (xs ++ ys)) j 0 ≡ get_or (starts_of xs) j 0
+start-front [] ys j l = absurd (omega arith)
+start-front (x ∷ xs) ys zero l = refl
+start-front (x ∷ xs) ys (suc j) l = start-front xs ys j (omega arith)
 
 -- what a filter keeps
 pub in_filter : {X : Type 0} → (p : X → Bool) (xs : List X) (x : X) → In xs x → p x ≡ true → In (filter p xs) x

@@ -4,14 +4,14 @@ use Rattle.std.proofs.lemmas.List.{get_or-take, get_or-drop, length-take-le, len
 use Rattle.object_header.specs.Fields.{fields_of}
 use Rattle.object_header.specs.Formats.{pointer_slots_of}
 use Rattle.object_header.specs.Head.{format_of, literals_of}
-use Rattle.spur_graph.specs.Chunks.{Chunk, Cuts}
+use Rattle.object_header.specs.Chunks.{Chunk, InOrder, StandsAt, slots_at, slots_from}
 use Rattle.spur_graph.specs.Cells.{Body, cell_in, body_from, body_of, is_start, is_there, is_formed, pointer_count}
-use Rattle.heap_cells.specs.Rows.{ReadsStart, StandsAt, slots_at, slots_from}
+use Rattle.heap_cells.specs.Rows.{ReadsStart}
 use Rattle.heap_cells.proofs.Bodies.{pointers-same, pointers_fit, method_some}
 use Rattle.heap_cells.proofs.CellKinds.{there_starts}
 use Rattle.heap_cells.proofs.Starts.{start-read}
 
-module _ (to : ℕ → Option ℕ) (words : List ℕ) (cs : List Chunk) (cut : Cuts words 0 (length words) cs) (s : ℕ) where
+module _ (to : ℕ → Option ℕ) (words : List ℕ) (cs : List Chunk) (cut : InOrder words 0 (length words) cs) (s : ℕ) where
   pub start-stands : is_start (cell_in to words cs s) ≡ true → StandsAt words s
   start-stands on = let r = start-read to words (length words) cs s cut on in record { below = r.below; behind = r.behind; fits = r.fits }
 

@@ -4,9 +4,8 @@ use Rattle.std.proofs.lemmas.Bool.{false≢true, cases_Bool, cases_eq}
 use Rattle.std.proofs.lemmas.List.{length-set, get_or-set_other, get_or-set_same, drop-set-add, drop-set-lt}
 use Rattle.object_header.specs.Fields.{Fields, fields_of}
 use Rattle.object_header.specs.Head.{count_of, class_of}
-use Rattle.spur_graph.specs.Chunks.{Chunk, leads, slots_told, Cuts, slots_of}
+use Rattle.object_header.specs.Chunks.{Chunk, leads, slots_told, InOrder, slots_of, slots_at}
 use Rattle.spur_graph.specs.Cells.{Body, Empty, Moved, There, read_cell, cell_in, cell_from, body_from, start_named, is_start, is_moved}
-use Rattle.heap_cells.specs.Rows.{slots_at}
 use Rattle.heap_cells.specs.RowWrites.{KeepsChunk, Rewrites}
 use Rattle.heap_cells.proofs.CellKinds.{moved_starts}
 use Rattle.heap_cells.proofs.Members.{In, listed}
@@ -55,7 +54,7 @@ read-by to words c w ws a b =
 
 -- ---- writes in one chunk
 
-module _ (to : ℕ → Option ℕ) (words : List ℕ) (end : ℕ) (cs : List Chunk) (c : Chunk) (t : Cuts words 0 end cs) (m : In cs c) where
+module _ (to : ℕ → Option ℕ) (words : List ℕ) (end : ℕ) (cs : List Chunk) (c : Chunk) (t : InOrder words 0 end cs) (m : In cs c) where
   slots-at : (new : List ℕ) (b : Body) → cell_in to words cs c.start ≡ There b → length new ≡ length words
       → ((j : ℕ) → (j ≤ c.start) ⊎ (c.start + 1 + slots_at words c.start ≤ j) → get_or new j 0 ≡ get_or words j 0)
       → Rewrites to words new end cs c.start (There (record b { words = take (slots_at words c.start) (drop (c.start + 1) new) }))
@@ -160,7 +159,7 @@ module _ (to : ℕ → Option ℕ) (words : List ℕ) (end : ℕ) (cs : List Chu
 
 -- ---- the same by starts
 
-pub slots-written : (to : ℕ → Option ℕ) (words new : List ℕ) (end : ℕ) (cs : List Chunk) (s : ℕ) (b : Body) → Cuts words 0 end cs → cell_in to words cs s ≡ There b → length new ≡ length words
+pub slots-written : (to : ℕ → Option ℕ) (words new : List ℕ) (end : ℕ) (cs : List Chunk) (s : ℕ) (b : Body) → InOrder words 0 end cs → cell_in to words cs s ≡ There b → length new ≡ length words
     → ((j : ℕ) → (j ≤ s) ⊎ (s + 1 + slots_at words s ≤ j) → get_or new j 0 ≡ get_or words j 0)
     → Rewrites to words new end cs s (There (record b { words = take (slots_at words s) (drop (s + 1) new) }))
 slots-written to words new end cs s b t is len same =
@@ -170,7 +169,7 @@ slots-written to words new end cs s b t is len same =
     → Rewrites to words new end cs k (There (record b { words = take (slots_at words k) (drop (k + 1) new) })))
     r.2 (λ i e. slots-at to words end cs r.0 t r.1 new b i len e) is same
 
-pub body-written : (to : ℕ → Option ℕ) (words : List ℕ) (end : ℕ) (cs : List Chunk) (s j w : ℕ) (b : Body) → Cuts words 0 end cs → cell_in to words cs s ≡ There b → s + 1 ≤ j → j < s + 1 + slots_at words s
+pub body-written : (to : ℕ → Option ℕ) (words : List ℕ) (end : ℕ) (cs : List Chunk) (s j w : ℕ) (b : Body) → InOrder words 0 end cs → cell_in to words cs s ≡ There b → s + 1 ≤ j → j < s + 1 + slots_at words s
     → Rewrites to words (set words j w) end cs s (There (record b { words = set b.words (j - s - 1) w }))
 body-written to words end cs s j w b t is low high =
     let n = slots_at words s in
@@ -183,7 +182,7 @@ body-written to words end cs s j w b t is low high =
     ap (λ k. take n (drop (s + 1) (set words k w))) place ∙ ap (take n) (drop-set-add (s + 1) words i w) ∙ take-set_in (drop (s + 1) words) n i w (omega arith) ∙ ap (λ xs. set xs i w) was in
     subst (λ xs. Rewrites to words (set words j w) end cs s (There (record b { words = xs }))) e r
   where
-    words-are : (to : ℕ → Option ℕ) (words : List ℕ) (end : ℕ) (cs : List Chunk) (s : ℕ) (b : Body) → Cuts words 0 end cs → cell_in to words cs s ≡ There b → take (slots_at words s) (drop (s + 1) words) ≡ b.words
+    words-are : (to : ℕ → Option ℕ) (words : List ℕ) (end : ℕ) (cs : List Chunk) (s : ℕ) (b : Body) → InOrder words 0 end cs → cell_in to words cs s ≡ There b → take (slots_at words s) (drop (s + 1) words) ≡ b.words
     words-are to words end cs s b t is =
         let r = start-in to words cs s (ap is_start is) in
         let c = r.0 in
@@ -191,7 +190,7 @@ body-written to words end cs s j w b t is low high =
         let o = object_there to words c b (sym (cell-at to words 0 end cs c t r.1) ∙ (ap (cell_in to words cs) r.2 ∙ is)) in
         ap (λ k. take (slots_at words k) (drop (k + 1) words)) (sym r.2) ∙ ap (λ n. take n (drop (c.start + 1) words)) h.slots ∙ ap (λ (x : Body). x.words) o.body
 
-pub header-written : (to : ℕ → Option ℕ) (words : List ℕ) (end : ℕ) (cs : List Chunk) (s w : ℕ) (b : Body) → Cuts words 0 end cs → end ≤ length words → cell_in to words cs s ≡ There b
+pub header-written : (to : ℕ → Option ℕ) (words : List ℕ) (end : ℕ) (cs : List Chunk) (s w : ℕ) (b : Body) → InOrder words 0 end cs → end ≤ length words → cell_in to words cs s ≡ There b
     → count_of w ≡ count_of (get_or words s 0) → class_of w ≡ class_of (get_or words s 0) → Rewrites to words (set words s w) end cs s (There (body_from (fields_of w) b.words))
 header-written to words end cs s w b t l is count class =
     let r = start-in to words cs s (ap is_start is) in
@@ -200,7 +199,7 @@ header-written to words end cs s w b t l is count class =
     → Rewrites to words (set words k w) end cs k (There (body_from (fields_of w) b.words)))
     r.2 (λ i p q. header-at to words end cs r.0 t r.1 w b l i p q) is count class
 
-pub target-written : (to : ℕ → Option ℕ) (words : List ℕ) (end : ℕ) (cs : List Chunk) (s w : ℕ) → Cuts words 0 end cs → end ≤ length words → is_moved (cell_in to words cs s) ≡ true
+pub target-written : (to : ℕ → Option ℕ) (words : List ℕ) (end : ℕ) (cs : List Chunk) (s w : ℕ) → InOrder words 0 end cs → end ≤ length words → is_moved (cell_in to words cs s) ≡ true
     → Rewrites to words (set words (s + 1) w) end cs s (Moved (start_named to words w))
 target-written to words end cs s w t l is =
     let r = start-in to words cs s (moved_starts (cell_in to words cs s) is) in

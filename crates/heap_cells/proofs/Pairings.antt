@@ -11,22 +11,22 @@ pub record Pairing (p q : ℕ → ℕ) : Type 0 where
   pub right : (s : ℕ) → p (q s) ≡ s
 
 -- a and b change places
-abbrev swapped : ℕ → ℕ → ℕ → ℕ
+abbrev pub swapped : ℕ → ℕ → ℕ → ℕ
 swapped a b s = cond (eqb s a) b (cond (eqb s b) a s)
 
-swapped-left : (a b s : ℕ) → s ≡ a → swapped a b s ≡ b
+pub swapped-left : (a b s : ℕ) → s ≡ a → swapped a b s ≡ b
 swapped-left a b s e = rw (eq-eqb s a e) refl
 
-swapped-right : (a b s : ℕ) → s ≡ b → swapped a b s ≡ a
+pub swapped-right : (a b s : ℕ) → s ≡ b → swapped a b s ≡ a
 swapped-right a b s e = elim (cases_eq s a) [
   | inl same ↦ rw (eq-eqb s a same) (sym e ∙ same)
   | inr other ↦ rw (ne_eqb s a other, eq-eqb s b e) refl
 ]
 
-swapped-else : (a b s : ℕ) → s ≢ a → s ≢ b → swapped a b s ≡ s
+pub swapped-else : (a b s : ℕ) → s ≢ a → s ≢ b → swapped a b s ≡ s
 swapped-else a b s n m = rw (ne_eqb s a n, ne_eqb s b m) refl
 
-swapped-twice : (a b s : ℕ) → swapped a b (swapped a b s) ≡ s
+pub swapped-twice : (a b s : ℕ) → swapped a b (swapped a b s) ≡ s
 swapped-twice a b s = elim (cases_eq s a) [
   | inl e ↦ ap (swapped a b) (swapped-left a b s e) ∙ swapped-right a b b refl ∙ sym e
   | inr n ↦ elim (cases_eq s b) [

@@ -4,13 +4,13 @@ use Rattle.std.proofs.lemmas.Bool.{false≢true, cases_eq, cases_lt, ne_eqb, eq-
 use Rattle.object_header.specs.Fields.{Fields, fields_of}
 use Rattle.object_header.specs.declared.head.Head.{Head}
 use Rattle.object_header.specs.declared.head.HeadError.{HeadError}
-use Rattle.spur_graph.specs.Chunks.{Chunk, chunk_of, IsChunk, Cuts, chunks_from}
+use Rattle.object_header.specs.Chunks.{Chunk, chunk_of, IsChunk, Cuts, chunks_from, slots_from}
 use Rattle.spur_graph.specs.Cells.{read_cell, cell_in, cell_from, body_from, body_of, start_named, is_there, is_formed}
 use Rattle.spur_graph.specs.Places.{head_at, size_of, after, place}
-use Rattle.heap_cells.specs.Rows.{slots_from, AllRead, CutsFormed}
+use Rattle.heap_cells.specs.Rows.{AllRead, CutsFormed}
 use Rattle.heap_cells.proofs.CellKinds.{there_starts}
 use Rattle.heap_cells.proofs.Members.{In}
-use Rattle.heap_cells.proofs.Cutting.{first, stands, shape, cell-at, start-in}
+use Rattle.heap_cells.proofs.Cutting.{first, stands, shape, cell-at, start-in, cuts-in_order}
 use Rattle.heap_cells.proofs.Starts.{read_cell-is}
 use Rattle.heap_cells.proofs.HeadReads.{from-head}
 
@@ -72,8 +72,8 @@ all-formed words at end stop cs within t r = record {
   row = t;
   formed = λ to s k.
       let d = start-in to words cs s (there_starts (cell_in to words cs s) k) in
-      let cell : cell_in to words cs s ≡ read_cell to words d.0 = ap (cell_in to words cs) (sym d.2) ∙ cell-at to words at end cs d.0 t d.1 in
-      ap (λ x. is_formed (body_of x)) cell ∙ chunk-formed to words stop d.0 within (stands words at end cs d.0 t d.1).chunk (r d.0 d.1) (ap is_there (sym cell) ∙ k);
+      let cell : cell_in to words cs s ≡ read_cell to words d.0 = ap (cell_in to words cs) (sym d.2) ∙ cell-at to words at end cs d.0 (cuts-in_order words at end cs t) d.1 in
+      ap (λ x. is_formed (body_of x)) cell ∙ chunk-formed to words stop d.0 within (stands words at end cs d.0 (cuts-in_order words at end cs t) d.1).chunk (r d.0 d.1) (ap is_there (sym cell) ∙ k);
 }
 
 -- ---- the chunks of one range

@@ -1,15 +1,15 @@
 -- Words of references: a good one leads to the same object once it is settled.
-use Rattle.std.proofs.Common.{◌≡◌, ◌≢◌, ℕ, true, false, not, ◌&&◌, ◌||◌, ◌/◌, ◌%◌, ◌^◌, eqb, ltb, sym, ap, ◌∙◌, arith, inl, inr, Some}
-use Rattle.std.proofs.lemmas.Bool.{cases_Bool, eqb-true, and_parts, or_parts, or_cases, or_left, or_right, not-true, eqb-false, cond-true, cond-false}
+use Rattle.std.proofs.Common.{◌≡◌, ◌≢◌, ℕ, true, false, not, ◌&&◌, ◌||◌, ◌/◌, ◌%◌, ◌^◌, eqb, ltb, ap, ◌∙◌, arith, inl, inr, Some}
+use Rattle.std.proofs.lemmas.Bool.{cases_Bool, eqb-true, and_parts, or_parts, or_cases, not-true, eqb-false, cond-true, cond-false}
 use Rattle.std.specs.Option.{unwrap_or, option_map}
 use Rattle.spur_graph.specs.Value.{is_immediate_word}
 use Rattle.spur_graph.specs.Cells.{Store, is_there, first, final, lead, any_below}
-use Rattle.spur_graph.specs.Ordinary.{page_places, passes, tells, is_internal, is_ordinary, is_good_reference, is_good_word}
+use Rattle.spur_graph.specs.Ordinary.{page_places, tells, is_internal, is_ordinary, is_good_reference}
 use Rattle.heap_cells.specs.Settled.{settled_word, word_of}
-use Rattle.heap_cells.proofs.Below.{passed, mapped_there}
-use Rattle.heap_cells.proofs.Both.{Both, there-same, immediate_stays}
+use Rattle.heap_cells.proofs.Below.{mapped_there}
+use Rattle.heap_cells.proofs.Both.{Both, there-same}
 use Rattle.heap_cells.proofs.Chains.{final-there}
-use Rattle.heap_cells.proofs.Internals.{to-heap, heap-named, ordinary-same, nil_ordinary}
+use Rattle.heap_cells.proofs.Internals.{to-heap, heap-named}
 
 pub ordinary_there : (h : Store) (s : ℕ) → is_ordinary h s ≡ true → is_there (h.cell s) ≡ true
 ordinary_there h s e = (and_parts (is_there (h.cell s)) (not (is_internal h s)) e).0
@@ -39,9 +39,6 @@ module _ {old new : Store} (k : Both old new) where
   pub heap-lead : (s : ℕ) → is_ordinary old s ≡ true → lead new (word_of s) ≡ Some s
   heap-lead s e = ap (option_map (final new)) (to-heap k (word_of s) ∙ heap-named s) ∙ ap (λ t. Some t) (final-there new s (there-same k s ∙ ordinary_there old s e))
 
-  pub heap_good : (s : ℕ) → is_ordinary old s ≡ true → is_good_reference new (word_of s) ≡ true
-  heap_good s e = ap (passes (is_ordinary new)) (heap-lead s e) ∙ ordinary-same k s ∙ e
-
   -- a word that leads somewhere is no immediate
   pub lead_tag : (w s : ℕ) → lead old w ≡ Some s → w % 8 ≡ 0
   lead_tag w s e = let p = mapped_there (final old) (old.to w) s e in k.named.aligned w p.0 p.1
@@ -53,23 +50,3 @@ module _ {old new : Store} (k : Both old new) where
 
   pub settled-bad : (w : ℕ) → is_immediate_word w ≡ false → is_good_reference old w ≡ false → settled_word old w ≡ word_of (first old 0)
   settled-bad w off e = cond-false (is_immediate_word w) _ _ off ∙ cond-false (is_good_reference old w) _ _ e
-
-  pub lead-settled : (w : ℕ) → is_good_reference old w ≡ true → lead new (settled_word old w) ≡ lead old w
-  lead-settled w e =
-      let p = passed (is_ordinary old) (lead old w) e in
-      ap (lead new) (settled-good w p.one p.is e) ∙ heap-lead p.one p.holds ∙ sym p.is
-
-  pub good_settled : (w : ℕ) → is_good_reference old w ≡ true → is_good_reference new (settled_word old w) ≡ true
-  good_settled w e =
-      let p = passed (is_ordinary old) (lead old w) e in
-      ap (is_good_reference new) (settled-good w p.one p.is e) ∙ heap_good p.one p.holds
-
-  -- whatever stood there, the settled word is that of a value
-  pub value_settled : (w : ℕ) → is_good_word new (settled_word old w) ≡ true
-  value_settled w = elim (cases_Bool (is_immediate_word w)) [
-    | inl on ↦ ap (is_good_word new) (immediate_stays old w on) ∙ or_left (is_immediate_word w) (is_good_reference new w) on
-    | inr off ↦ or_right (is_immediate_word (settled_word old w)) (is_good_reference new (settled_word old w)) (elim (cases_Bool (is_good_reference old w)) [
-      | inl good ↦ good_settled w good
-      | inr bad ↦ ap (is_good_reference new) (settled-bad w off bad) ∙ heap_good (first old 0) (nil_ordinary k.named k.loadable)
-    ])
-  ]

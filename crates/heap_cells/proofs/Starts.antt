@@ -1,14 +1,16 @@
 -- What a start tells, and where the starts of a row stand.
-use Rattle.std.proofs.Common.{◌≡◌, ◌≢◌, ℕ, suc, zero, true, false, ◌+◌, ◌<◌, ◌≤◌, max, List, [], ◌∷◌, length, get_or, take, drop, refl, sym, ap, ◌∙◌, subst, inl, inr, arith, Option, nat_eq}
+use Rattle.std.proofs.Common.{◌≡◌, ◌≢◌, ℕ, suc, zero, true, false, ◌+◌, ◌<◌, ◌≤◌, max, List, [], ◌∷◌, length, get_or, take, drop, refl, sym, ap, ◌∙◌, subst, inl, inr, arith, Option, nat_eq, not}
 use Rattle.std.proofs.lemmas.Bool.{false≢true, cases_eq, ne_eqb, eq-eqb}
 use Rattle.std.proofs.lemmas.List.Elements.{Contains-get_or}
 use Rattle.std.specs.List.{Contains}
 use Rattle.object_header.specs.Fields.{Fields, fields_of}
-use Rattle.spur_graph.specs.Chunks.{Chunk, leads, Cuts}
+use Rattle.object_header.specs.Head.{class_of}
+use Rattle.object_header.specs.Chunks.{Chunk, leads, InOrder, slots_of, slots_at, slots_from, starts_in}
 use Rattle.spur_graph.specs.Cells.{read_cell, cell_in, cell_from, body_from, body_of, start_named, is_start, is_moved, is_there, target_of}
-use Rattle.heap_cells.specs.Rows.{slots_at, slots_from, starts_of, ReadsStart, EndsBefore, AreStarts}
+use Rattle.heap_cells.specs.Rows.{starts_of, ReadsStart, EndsBefore, AreStarts}
+use Rattle.heap_cells.proofs.CellKinds.{start_from}
 use Rattle.heap_cells.proofs.Members.{In, in_list, listed, chunk_of_start, start_of_chunk}
-use Rattle.heap_cells.proofs.Cutting.{first, stands, shape, cell-at, start-in}
+use Rattle.heap_cells.proofs.Cutting.{head, stands, shape, cell-at, start-in}
 
 -- ---- one start
 
@@ -42,7 +44,7 @@ pub read_cell-is : (to : ℕ → Option ℕ) (words : List ℕ) (c : Chunk) → 
 unfolding read_cell
 read_cell-is to words c e = ap (λ n. cell_from (fields_of (get_or words c.start 0)) (start_named to words (get_or words (c.start + 1) 0)) (take n (drop (c.start + 1) words))) (sym e)
 
-of_chunk : (to : ℕ → Option ℕ) (words : List ℕ) (end : ℕ) (cs : List Chunk) (c : Chunk) → Cuts words 0 end cs → In cs c → is_start (cell_in to words cs c.start) ≡ true → ReadsStart to words end cs c.start
+of_chunk : (to : ℕ → Option ℕ) (words : List ℕ) (end : ℕ) (cs : List Chunk) (c : Chunk) → InOrder words 0 end cs → In cs c → is_start (cell_in to words cs c.start) ≡ true → ReadsStart to words end cs c.start
 of_chunk to words end cs c t m k =
     let s = stands words 0 end cs c t m in
     let h = shape words c s.chunk in
@@ -60,7 +62,7 @@ of_chunk to words end cs c t m k =
       body = λ is. ap body_of cell ∙ f.body (ap is_there (sym cell) ∙ is);
     }
 
-pub start-read : (to : ℕ → Option ℕ) (words : List ℕ) (end : ℕ) (cs : List Chunk) (s : ℕ) → Cuts words 0 end cs → is_start (cell_in to words cs s) ≡ true → ReadsStart to words end cs s
+pub start-read : (to : ℕ → Option ℕ) (words : List ℕ) (end : ℕ) (cs : List Chunk) (s : ℕ) → InOrder words 0 end cs → is_start (cell_in to words cs s) ≡ true → ReadsStart to words end cs s
 start-read to words end cs s t k =
     let r = start-in to words cs s k in
     subst (ReadsStart to words end cs) r.2 (of_chunk to words end cs r.0 t r.1 (ap (λ n. is_start (cell_in to words cs n)) r.2 ∙ k))
@@ -68,38 +70,38 @@ start-read to words end cs s t k =
 -- ---- all starts
 
 -- the chunks of two starts lie one behind the other
-pub in_order : (words : List ℕ) (at end : ℕ) (cs : List Chunk) (c d : Chunk) → Cuts words at end cs → In cs c → In cs d → c.start < d.start → c.at + c.size ≤ d.at
+pub in_order : (words : List ℕ) (at end : ℕ) (cs : List Chunk) (c d : Chunk) → InOrder words at end cs → In cs c → In cs d → c.start < d.start → c.at + c.size ≤ d.at
 in_order words at end [] c d t m n l = absurd m
 in_order words at end (x ∷ cs) c d t m n l =
-    let f = first words at x t.0 in
+    let f = head words at end x cs t in
     elim m [
       | inl e ↦ elim n [
         | inl o ↦ let k : c.start ≡ d.start = ap (λ (y : Chunk). y.start) (sym e ∙ o) in absurd (omega (arith, k, l))
         | inr o ↦
-            let s = stands words (at + x.size) end cs d t.1 o in
-            subst (λ (y : Chunk). y.at + y.size ≤ d.at) e (omega (arith, f.1, s.lies.after))
+            let s = stands words (x.at + x.size) end cs d t.1.1 o in
+            subst (λ (y : Chunk). y.at + y.size ≤ d.at) e s.lies.after
       ]
       | inr e ↦ elim n [
         | inl o ↦
-            let s = stands words (at + x.size) end cs c t.1 e in
+            let s = stands words (x.at + x.size) end cs c t.1.1 e in
             let k : x.start ≡ d.start = ap (λ (y : Chunk). y.start) o in
-            absurd (omega (arith, k, l, f.1, f.0.room, s.lies.after, s.lies.lead))
-        | inr o ↦ in_order words (at + x.size) end cs c d t.1 e o l
+            absurd (omega (arith, k, l, f.room, s.lies.after, s.lies.lead))
+        | inr o ↦ in_order words (x.at + x.size) end cs c d t.1.1 e o l
       ]
     ]
 
-rises : (words : List ℕ) (at end : ℕ) (cs : List Chunk) (i j : ℕ) → Cuts words at end cs → i < j → j < length (starts_of cs) → get_or (starts_of cs) i 0 < get_or (starts_of cs) j 0
+rises : (words : List ℕ) (at end : ℕ) (cs : List Chunk) (i j : ℕ) → InOrder words at end cs → i < j → j < length (starts_of cs) → get_or (starts_of cs) i 0 < get_or (starts_of cs) j 0
 rises words at end [] i j t l b = absurd (omega arith)
 rises words at end (c ∷ cs) i zero t l b = absurd (omega arith)
 rises words at end (c ∷ cs) zero (suc j) t l b =
-    let f = first words at c t.0 in
+    let f = head words at end c cs t in
     let low : j < length (starts_of cs) = omega arith in
     let r = chunk_of_start cs (get_or (starts_of cs) j 0) (in_list (starts_of cs) (get_or (starts_of cs) j 0) (Contains-get_or (starts_of cs) j 0 low)) in
-    let s = stands words (at + c.size) end cs r.0 t.1 r.1 in
-    omega (arith, f.1, f.0.room, s.lies.after, s.lies.lead, r.2)
-rises words at end (c ∷ cs) (suc i) (suc j) t l b = rises words (at + c.size) end cs i j t.1 (omega arith) (omega arith)
+    let s = stands words (c.at + c.size) end cs r.0 t.1.1 r.1 in
+    omega (arith, f.room, s.lies.after, s.lies.lead, r.2)
+rises words at end (c ∷ cs) (suc i) (suc j) t l b = rises words (c.at + c.size) end cs i j t.1.1 (omega arith) (omega arith)
 
-below : (words : List ℕ) (end : ℕ) (cs : List Chunk) (s : ℕ) → Cuts words 0 end cs → Contains (starts_of cs) s → s + 1 + max 1 (slots_at words s) ≤ end
+below : (words : List ℕ) (end : ℕ) (cs : List Chunk) (s : ℕ) → InOrder words 0 end cs → Contains (starts_of cs) s → s + 1 + max 1 (slots_at words s) ≤ end
 below words end cs s t k =
     let r = chunk_of_start cs s (in_list (starts_of cs) s k) in
     let l = stands words 0 end cs r.0 t r.1 in
@@ -107,7 +109,7 @@ below words end cs s t k =
     let e : slots_at words s ≡ r.0.slots = ap (slots_at words) (sym r.2) ∙ h.slots in
     omega (arith, l.lies.before, h.size, r.2, e)
 
-apart : (words : List ℕ) (end : ℕ) (cs : List Chunk) (s t : ℕ) → Cuts words 0 end cs → Contains (starts_of cs) s → Contains (starts_of cs) t → s < t → EndsBefore words s t
+apart : (words : List ℕ) (end : ℕ) (cs : List Chunk) (s t : ℕ) → InOrder words 0 end cs → Contains (starts_of cs) s → Contains (starts_of cs) t → s < t → EndsBefore words s t
 apart words end cs s t cut k m l =
     let c = chunk_of_start cs s (in_list (starts_of cs) s k) in
     let d = chunk_of_start cs t (in_list (starts_of cs) t m) in
@@ -126,10 +128,19 @@ apart words end cs s t cut k m l =
           omega (arith, two, o, c.2, d.2, g.size, e);
     }
 
-pub starts-rise : (words : List ℕ) (end : ℕ) (cs : List Chunk) → Cuts words 0 end cs → AreStarts words end cs
+pub starts-rise : (words : List ℕ) (end : ℕ) (cs : List Chunk) → InOrder words 0 end cs → AreStarts words end cs
 starts-rise words end cs t = record {
   rising = λ i j l b. rises words 0 end cs i j t l b;
   below = λ k d l. omega (arith, below words end cs (get_or (starts_of cs) k d) t (Contains-get_or (starts_of cs) k d l));
   fit = λ s k. below words end cs s t k;
   apart = λ s u k m l. apart words end cs s u t k m l;
 }
+
+-- the starts of a row are those of its chunks that are not free
+pub start-of-row : (to : ℕ → Option ℕ) (words : List ℕ) (cs : List Chunk) (s : ℕ) → starts_in words cs s ≡ is_start (cell_in to words cs s)
+unfolding starts_in cell_in read_cell
+start-of-row to words [] s = refl
+start-of-row to words (c ∷ cs) s = elim (cases_eq c.start s) [
+  | inl e ↦ rw (eq-eqb c.start s e) (ap (λ n. not (nat_eq (class_of (get_or words n 0)) 0)) (sym e) ∙ sym (start_from (fields_of (get_or words c.start 0)) (start_named to words (get_or words (c.start + 1) 0)) (slots_of words c)))
+  | inr n ↦ rw (ne_eqb c.start s n) (start-of-row to words cs s)
+]

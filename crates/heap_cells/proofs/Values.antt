@@ -1,24 +1,16 @@
--- The value of a word, and of the word once it is settled.
-use Rattle.std.proofs.Common.{◌≡◌, ◌≢◌, ℕ, Bool, true, false, cond, ◌&&◌, ◌||◌, ◌-◌, ◌/◌, ◌%◌, ◌^◌, ◌<◌, T, eqb, ltb, List, [], ◌∷◌, map, refl, sym, ap, ◌∙◌, subst, arith, inl, inr, Some, None, Option}
+-- The value of a word.
+use Rattle.std.proofs.Common.{◌≡◌, ◌≢◌, ℕ, Bool, true, false, cond, ◌&&◌, ◌||◌, ◌-◌, ◌/◌, ◌%◌, ◌^◌, ◌<◌, T, eqb, ltb, refl, sym, ap, ◌∙◌, subst, arith, inl, inr, Some, None, Option}
 use Rattle.std.specs.Prelude.{pos, negsuc}
 use Rattle.std.specs.Int.Signed.{le_z_yes, lt_z_yes}
-use Rattle.std.proofs.lemmas.Bool.{false≢true, cases_Bool, cases_eq, cases_lt, eqb-true, ltb-true, lt-ltb, le-ltb, le-leb, ne_eqb, and_parts, or_cases, or_parts}
+use Rattle.std.proofs.lemmas.Bool.{false≢true, cases_lt, eqb-true, ltb-true, lt-ltb, le-ltb, le-leb, ne_eqb, and_parts, or_cases, or_parts}
 use Rattle.std.specs.Option.{unwrap_or}
-use Rattle.std.specs.List.{Contains}
 use Rattle.spur_graph.specs.declared.answer.Value.{Value}
 use Rattle.spur_graph.specs.declared.answer.Value.TheVariants.{Int, Char, Float, Ref}
 use Rattle.spur_graph.specs.Value.{value_of, int_of, is_immediate_word, IsValue}
 use Rattle.spur_graph.specs.Names.{rename}
 use Rattle.spur_graph.specs.Cells.{Store, first, lead}
-use Rattle.spur_graph.specs.Ordinary.{is_ordinary, is_good_reference}
+use Rattle.spur_graph.specs.Ordinary.{is_good_reference}
 use Rattle.spur_graph.specs.CellGraph.{reference, read}
-use Rattle.spur_graph.specs.Heaps.{own_name}
-use Rattle.heap_cells.specs.Settled.{settled_word, word_of}
-use Rattle.heap_cells.proofs.Below.{passed}
-use Rattle.heap_cells.proofs.CellKinds.{there_starts}
-use Rattle.heap_cells.proofs.Both.{Both, immediate_stays}
-use Rattle.heap_cells.proofs.Internals.{nil_ordinary}
-use Rattle.heap_cells.proofs.References.{ordinary_there, heap-lead, heap_good, lead_tag, settled-good, settled-bad}
 
 -- the value of a word with this tag
 abbrev at_tag : ℕ → (ℕ → Value) → ℕ → Option Value
@@ -89,35 +81,3 @@ reference-good name h w s good is = ap (λ b. cond b (Ref (name (unwrap_or (lead
 
 pub reference-bad : (name : ℕ → ℕ) (h : Store) (w : ℕ) → is_good_reference h w ≡ false → reference name h w ≡ Ref (name (first h 0))
 reference-bad name h w bad = ap (λ b. cond b (Ref (name (unwrap_or (lead h w) (first h 0)))) (Ref (name (first h 0)))) bad
-
-module _ {old new : Store} (k : Both old new) where
-  heap-reads : (s : ℕ) → is_ordinary old s ≡ true → read own_name new (word_of s) ≡ Ref s
-  heap-reads s e =
-      let z : word_of s % 8 ≡ 0 = omega arith in
-      read-reference own_name new (word_of s) z ∙ reference-good own_name new (word_of s) s (heap_good k s e) (heap-lead k s e)
-
-  module _ (name p : ℕ → ℕ) (named : (s : ℕ) → Contains old.starts s → p (name s) ≡ s) where
-    pub ordinary_named : (s : ℕ) → is_ordinary old s ≡ true → p (name s) ≡ s
-    ordinary_named s e = named s (k.named.inside s (there_starts (old.cell s) (ordinary_there old s e)))
-
-    -- a settled word has the value of the word, under the names of the heap
-    pub value-settled : (w : ℕ) → read own_name new (settled_word old w) ≡ rename p (read name old w)
-    value-settled w = elim (cases_Bool (is_immediate_word w)) [
-      | inl on ↦ let v = fixed w on in ap (read own_name new) (immediate_stays old w on) ∙ read-fixed own_name new w v ∙ sym (v.same p) ∙ ap (rename p) (sym (read-fixed name old w v))
-      | inr off ↦ elim (cases_Bool (is_good_reference old w)) [
-        | inl good ↦
-            let g = passed (is_ordinary old) (lead old w) good in
-            ap (read own_name new) (settled-good k w g.one g.is good) ∙ heap-reads g.one g.holds ∙ ap (λ t. Ref t) (sym (ordinary_named g.one g.holds))
-            ∙ ap (rename p) (sym (read-reference name old w (lead_tag k w g.one g.is) ∙ reference-good name old w g.one good g.is))
-        | inr bad ↦
-            let nil : read name old w ≡ Ref (name (first old 0)) = elim (cases_eq (w % 8) 0) [
-              | inl z ↦ read-reference name old w z ∙ reference-bad name old w bad
-              | inr n ↦ read-none name old w n off
-            ] in
-            ap (read own_name new) (settled-bad k w off bad) ∙ heap-reads (first old 0) (nil_ordinary k.named k.loadable) ∙ ap (λ t. Ref t) (sym (ordinary_named (first old 0) (nil_ordinary k.named k.loadable))) ∙ ap (rename p) (sym nil)
-      ]
-    ]
-
-    pub values-settled : (ws : List ℕ) → map (read own_name new) (map (settled_word old) ws) ≡ map (rename p) (map (read name old) ws)
-    values-settled [] = refl
-    values-settled (w ∷ ws) = λ i. value-settled w i ∷ values-settled ws i

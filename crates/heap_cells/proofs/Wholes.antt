@@ -2,7 +2,7 @@
 use Rattle.std.proofs.Common.{◌≡◌, ℕ, suc, zero, ◌+◌, ◌-◌, ◌<◌, ◌≤◌, List, [], ◌∷◌, ◌++◌, length, get_or, refl, sym, ap, ◌∙◌, subst, inl, inr, arith, Ok, Err}
 use Rattle.std.proofs.lemmas.Bool.{cases_lt}
 use Rattle.object_header.specs.declared.head.Head.{Head}
-use Rattle.spur_graph.specs.Chunks.{Chunk, IsChunk, Cuts, chunks_from, chunks}
+use Rattle.object_header.specs.Chunks.{Chunk, IsChunk, Cuts, chunks_from, chunks}
 use Rattle.spur_graph.specs.Places.{head_at, place}
 use Rattle.heap_cells.specs.Rows.{starts_of, AllRead, CutsFormed, AllAreCut, IsPlace}
 use Rattle.heap_cells.proofs.Members.{in_either}

@@ -4,7 +4,7 @@ use Rattle.std.proofs.lemmas.List.Elements.{All-take, All-drop}
 use Rattle.std.specs.List.{All}
 use Rattle.object_header.specs.Fields.{fields_of}
 use Rattle.object_header.proofs.Fields.{field_of-lt}
-use Rattle.spur_graph.specs.Chunks.{Chunk, slots_of}
+use Rattle.object_header.specs.Chunks.{Chunk, slots_of}
 use Rattle.spur_graph.specs.Cells.{Body, Empty, Moved, There, body_of, no_body, body_from, read_cell, cell_in}
 use Rattle.heap_cells.specs.Closing.{HasWidths}
 

@@ -3,17 +3,17 @@ use Rattle.std.proofs.Common.{◌≡◌, ◌≢◌, ◌⊎◌, ℕ, Bool, cond, 
 use Rattle.std.proofs.lemmas.Bool.{cases_eq, cases_lt, ne_eqb, eq-eqb}
 use Rattle.std.proofs.lemmas.List.{get_or-drop, get_or-take, ext_get_or, length-take, length-drop}
 use Rattle.std.specs.List.{Contains}
-use Rattle.spur_graph.specs.Chunks.{Chunk, leads, slots_told, chunk_of, IsChunk, Cuts, slots_of}
+use Rattle.object_header.specs.Chunks.{Chunk, leads, slots_told, chunk_of, IsChunk, Cuts, InOrder, slots_of, slots_at}
 use Rattle.spur_graph.specs.Cells.{Cell, Empty, read_cell, cell_in}
-use Rattle.heap_cells.specs.Rows.{slots_at, starts_of}
+use Rattle.heap_cells.specs.Rows.{starts_of}
 use Rattle.heap_cells.specs.RowWrites.{HasChunk, ReadsCells, KeepsChunk, Rewrites}
 use Rattle.heap_cells.proofs.Members.{In, in_list, listed, chunk_of_start, start_of_chunk}
-use Rattle.heap_cells.proofs.Cutting.{first, stands, shape, cell-at, cell-none}
+use Rattle.heap_cells.proofs.Cutting.{first, head, stands, shape, cell-at, cell-none}
 use Rattle.heap_cells.proofs.Starts.{in_order, read_cell-is}
 
 -- ---- a start and its chunk
 
-pub has-chunk : (words : List ℕ) (end : ℕ) (cs : List Chunk) (s : ℕ) → Cuts words 0 end cs → Contains (starts_of cs) s → HasChunk words end cs s
+pub has-chunk : (words : List ℕ) (end : ℕ) (cs : List Chunk) (s : ℕ) → InOrder words 0 end cs → Contains (starts_of cs) s → HasChunk words end cs s
 has-chunk words end cs s t k =
     let r = chunk_of_start cs s (in_list (starts_of cs) s k) in
     let l = stands words 0 end cs r.0 t r.1 in
@@ -29,7 +29,7 @@ has-chunk words end cs s t k =
       fits = l.lies.before;
     }
 
-pub reads-cells : (to : ℕ → Option ℕ) (words : List ℕ) (end : ℕ) (cs : List Chunk) → Cuts words 0 end cs → ReadsCells to words cs
+pub reads-cells : (to : ℕ → Option ℕ) (words : List ℕ) (end : ℕ) (cs : List Chunk) → InOrder words 0 end cs → ReadsCells to words cs
 reads-cells to words end cs t = record {
   here = λ c k. cell-at to words 0 end cs c t (in_list cs c k);
   told = λ c k. read_cell-is to words c (shape words c (stands words 0 end cs c t (in_list cs c k)).chunk).slots;
@@ -70,6 +70,12 @@ row-kept words new at end [] t keeps = t
 row-kept words new at end (c ∷ cs) t keeps =
     (is-kept words new at c (first words at c t.0).1 t.0 (keeps c (inl refl)), row-kept words new (at + c.size) end cs t.1 (λ d m. keeps d (inr m)))
 
+-- also with words between its chunks
+pub order-kept : (words new : List ℕ) (at end : ℕ) (cs : List Chunk) → InOrder words at end cs → ((c : Chunk) → In cs c → KeepsChunk words new c) → InOrder new at end cs
+order-kept words new at end [] t keeps = t
+order-kept words new at end (c ∷ cs) t keeps =
+    (t.0, (is-kept words new c.at c refl t.1.0 (keeps c (inl refl)), order-kept words new (c.at + c.size) end cs t.1.1 (λ d m. keeps d (inr m))))
+
 pub keeps-row : (words new : List ℕ) (at end : ℕ) (cs : List Chunk) → Cuts words at end cs → ((c : Chunk) → Contains cs c → KeepsChunk words new c) → Cuts new at end cs
 keeps-row words new at end cs t keeps = row-kept words new at end cs t (λ c m. keeps c (listed cs c m))
 
@@ -84,7 +90,7 @@ slots-agree words new c len same = ext_get_or 0 _ _
     (λ i b. let low : i < c.slots = let k : i < length (slots_of new c) = b in omega (arith, simp (length-take, length-drop) at k) in
     rw (get_or-take, get_or-take, get_or-drop, get_or-drop) (same (c.start + 1 + i) (omega arith) (omega arith)))
 
-read-agree : (to : ℕ → Option ℕ) (words new : List ℕ) (c : Chunk) → length new ≡ length words → ((j : ℕ) → c.start ≤ j → j < c.start + 1 + max 1 c.slots → get_or new j 0 ≡ get_or words j 0) → read_cell to new c ≡ read_cell to words c
+pub read-agree : (to : ℕ → Option ℕ) (words new : List ℕ) (c : Chunk) → length new ≡ length words → ((j : ℕ) → c.start ≤ j → j < c.start + 1 + max 1 c.slots → get_or new j 0 ≡ get_or words j 0) → read_cell to new c ≡ read_cell to words c
 unfolding read_cell
 read-agree to words new c len same =
     let head : get_or new c.start 0 ≡ get_or words c.start 0 = same c.start (omega arith) (omega arith) in
@@ -101,11 +107,11 @@ cell-same to words new (c ∷ cs) s same = elim (cases_eq c.start s) [
 ]
 
 -- a start is that of one chunk
-one-chunk : (words : List ℕ) (at end : ℕ) (cs : List Chunk) (c d : Chunk) → Cuts words at end cs → In cs c → In cs d → c.start ≡ d.start → c ≡ d
+one-chunk : (words : List ℕ) (at end : ℕ) (cs : List Chunk) (c d : Chunk) → InOrder words at end cs → In cs c → In cs d → c.start ≡ d.start → c ≡ d
 one-chunk words at end [] c d t m n e = absurd m
 one-chunk words at end (x ∷ cs) c d t m n e =
-    let f = first words at x t.0 in
-    let later : (y : Chunk) → In cs y → x.start < y.start = λ y k. let s = stands words (at + x.size) end cs y t.1 k in omega (arith, f.1, f.0.room, s.lies.after, s.lies.lead) in
+    let f = head words at end x cs t in
+    let later : (y : Chunk) → In cs y → x.start < y.start = λ y k. let s = stands words (x.at + x.size) end cs y t.1.1 k in omega (arith, f.room, s.lies.after, s.lies.lead) in
     elim m [
       | inl p ↦ elim n [
         | inl q ↦ sym p ∙ q
@@ -113,11 +119,11 @@ one-chunk words at end (x ∷ cs) c d t m n e =
       ]
       | inr p ↦ elim n [
         | inl q ↦ let k : x.start ≡ d.start = ap (λ (y : Chunk). y.start) q in absurd (omega (arith, later c p, k, e))
-        | inr q ↦ one-chunk words (at + x.size) end cs c d t.1 p q e
+        | inr q ↦ one-chunk words (x.at + x.size) end cs c d t.1.1 p q e
       ]
     ]
 
-module _ (to : ℕ → Option ℕ) (words new : List ℕ) (end : ℕ) (cs : List Chunk) (c : Chunk) (t : Cuts words 0 end cs) (m : In cs c) (len : length new ≡ length words)
+module _ (to : ℕ → Option ℕ) (words new : List ℕ) (end : ℕ) (cs : List Chunk) (c : Chunk) (t : InOrder words 0 end cs) (m : In cs c) (len : length new ≡ length words)
     (same : (j : ℕ) → (j < c.at) ⊎ (c.at + c.size ≤ j) → get_or new j 0 ≡ get_or words j 0) (keeps : KeepsChunk words new c) where
   -- the words of every other chunk are as before
   others : (d : Chunk) → In cs d → c.start ≢ d.start → (j : ℕ) → d.at ≤ j → j < d.at + d.size → get_or new j 0 ≡ get_or words j 0
@@ -142,15 +148,16 @@ module _ (to : ℕ → Option ℕ) (words new : List ℕ) (end : ℕ) (cs : List
 
   rewrites : Rewrites to words new end cs c.start (read_cell to new c)
   rewrites =
-      let row = row-kept words new 0 end cs t chunks-kept in
+      let row = order-kept words new 0 end cs t chunks-kept in
       record {
         row = row;
+        kept = λ d k. chunks-kept d (in_list cs d k);
         cell = λ u. elim (cases_eq u c.start) [
           | inl e ↦ rw (eq-eqb u c.start e) (ap (cell_in to new cs) e ∙ cell-at to new 0 end cs c row m)
           | inr n ↦ rw (ne_eqb u c.start n) (cell-same to words new cs u (λ d k e. others-read d k (λ q. n (sym e ∙ sym q))))
         ];
       }
 
-pub one-rewritten : (to : ℕ → Option ℕ) (words new : List ℕ) (end : ℕ) (cs : List Chunk) (c : Chunk) → Cuts words 0 end cs → Contains cs c → length new ≡ length words
+pub one-rewritten : (to : ℕ → Option ℕ) (words new : List ℕ) (end : ℕ) (cs : List Chunk) (c : Chunk) → InOrder words 0 end cs → Contains cs c → length new ≡ length words
     → ((j : ℕ) → (j < c.at) ⊎ (c.at + c.size ≤ j) → get_or new j 0 ≡ get_or words j 0) → KeepsChunk words new c → Rewrites to words new end cs c.start (read_cell to new c)
 one-rewritten to words new end cs c t m len same keeps = rewrites to words new end cs c t (in_list cs c m) len same keeps

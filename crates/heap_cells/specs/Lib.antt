@@ -1,5 +1,4 @@
 pub mod Rows
 pub mod RowWrites
 pub mod Settled
-pub mod Settling
 pub mod Closing

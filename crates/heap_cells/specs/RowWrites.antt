@@ -4,9 +4,9 @@ use Rattle.std.specs.List.{Contains}
 use Rattle.object_header.specs.Fields.{fields_of}
 use Rattle.object_header.specs.Head.{count_of, class_of}
 use Rattle.object_header.specs.declared.header.TheConstants.{FREE_CLASS}
-use Rattle.spur_graph.specs.Chunks.{Chunk, leads, slots_told, chunk_of, Cuts, chunks}
+use Rattle.object_header.specs.Chunks.{Chunk, leads, slots_told, chunk_of, Cuts, InOrder, chunks, slots_at, slots_from}
 use Rattle.spur_graph.specs.Cells.{Body, Cell, Empty, Moved, There, cell_in, cell_from, read_cell, body_from, start_named, is_moved, target_of}
-use Rattle.heap_cells.specs.Rows.{slots_at, slots_from, starts_of}
+use Rattle.heap_cells.specs.Rows.{starts_of}
 
 -- ---- a start and its chunk
 
@@ -21,7 +21,7 @@ pub record HasChunk (words : List ℕ) (end : ℕ) (cs : List Chunk) (s : ℕ) :
   pub fits : chunk.at + chunk.size ≤ end
 
 abbrev pub StartHasChunk : Type 0
-StartHasChunk = (words : List ℕ) (end : ℕ) (cs : List Chunk) (s : ℕ) → Cuts words 0 end cs → Contains (starts_of cs) s → HasChunk words end cs s
+StartHasChunk = (words : List ℕ) (end : ℕ) (cs : List Chunk) (s : ℕ) → InOrder words 0 end cs → Contains (starts_of cs) s → HasChunk words end cs s
 
 -- a cell is that of the chunk with this start, which its words tell, and where there is none, nothing stands
 pub record ReadsCells (to : ℕ → Option ℕ) (words : List ℕ) (cs : List Chunk) : Type 0 where
@@ -30,7 +30,7 @@ pub record ReadsCells (to : ℕ → Option ℕ) (words : List ℕ) (cs : List Ch
   pub none : (s : ℕ) → (Contains (starts_of cs) s → ⊥) → cell_in to words cs s ≡ Empty
 
 abbrev pub CellRead : Type 0
-CellRead = (to : ℕ → Option ℕ) (words : List ℕ) (end : ℕ) (cs : List Chunk) → Cuts words 0 end cs → ReadsCells to words cs
+CellRead = (to : ℕ → Option ℕ) (words : List ℕ) (end : ℕ) (cs : List Chunk) → InOrder words 0 end cs → ReadsCells to words cs
 
 -- where each chunk of a row reads in other words as `f` of what it was, each cell does so, also where words name other starts
 abbrev pub CellsMapped : Type 0
@@ -48,37 +48,38 @@ pub record KeepsChunk (words new : List ℕ) (c : Chunk) : Type 0 where
 abbrev pub KeepsRow : Type 0
 KeepsRow = (words new : List ℕ) (at end : ℕ) (cs : List Chunk) → Cuts words at end cs → ((c : Chunk) → Contains cs c → KeepsChunk words new c) → Cuts new at end cs
 
--- the row is as before, and so is each cell but that of one start
+-- the row is as before, chunk by chunk, and so is each cell but that of one start
 pub record Rewrites (to : ℕ → Option ℕ) (words new : List ℕ) (end : ℕ) (cs : List Chunk) (s : ℕ) (x : Cell) : Type 0 where
-  pub row : Cuts new 0 end cs
+  pub row : InOrder new 0 end cs
+  pub kept : (c : Chunk) → Contains cs c → KeepsChunk words new c
   pub cell : (t : ℕ) → cell_in to new cs t ≡ (if nat_eq t s then x else cell_in to words cs t)
 
 -- only words of one chunk are written
 abbrev pub OneRewritten : Type 0
-OneRewritten = (to : ℕ → Option ℕ) (words new : List ℕ) (end : ℕ) (cs : List Chunk) (c : Chunk) → Cuts words 0 end cs → Contains cs c → length new ≡ length words
+OneRewritten = (to : ℕ → Option ℕ) (words new : List ℕ) (end : ℕ) (cs : List Chunk) (c : Chunk) → InOrder words 0 end cs → Contains cs c → length new ≡ length words
     → ((j : ℕ) → (j < c.at) ⊎ (c.at + c.size ≤ j) → slice_index new j ≡ slice_index words j) → KeepsChunk words new c
     → Rewrites to words new end cs c.start (read_cell to new c)
 
 -- only slots of one object are written
 abbrev pub SlotsWritten : Type 0
-SlotsWritten = (to : ℕ → Option ℕ) (words new : List ℕ) (end : ℕ) (cs : List Chunk) (s : ℕ) (b : Body) → Cuts words 0 end cs → cell_in to words cs s ≡ There b → length new ≡ length words
+SlotsWritten = (to : ℕ → Option ℕ) (words new : List ℕ) (end : ℕ) (cs : List Chunk) (s : ℕ) (b : Body) → InOrder words 0 end cs → cell_in to words cs s ≡ There b → length new ≡ length words
     → ((j : ℕ) → (j ≤ s) ⊎ (s + 1 + slots_at words s ≤ j) → slice_index new j ≡ slice_index words j)
     → Rewrites to words new end cs s (There (record b { words = take (slots_at words s) (drop (s + 1) new) }))
 
 -- one slot of an object is written
 abbrev pub BodyWritten : Type 0
-BodyWritten = (to : ℕ → Option ℕ) (words : List ℕ) (end : ℕ) (cs : List Chunk) (s j w : ℕ) (b : Body) → Cuts words 0 end cs → cell_in to words cs s ≡ There b → s + 1 ≤ j → j < s + 1 + slots_at words s
+BodyWritten = (to : ℕ → Option ℕ) (words : List ℕ) (end : ℕ) (cs : List Chunk) (s j w : ℕ) (b : Body) → InOrder words 0 end cs → cell_in to words cs s ≡ There b → s + 1 ≤ j → j < s + 1 + slots_at words s
     → Rewrites to words (slice_set words j w) end cs s (There (record b { words = slice_set b.words (j - s - 1) w }))
 
 -- the header of an object is written, with the same count and the same class
 abbrev pub HeaderWritten : Type 0
-HeaderWritten = (to : ℕ → Option ℕ) (words : List ℕ) (end : ℕ) (cs : List Chunk) (s w : ℕ) (b : Body) → Cuts words 0 end cs → end ≤ length words → cell_in to words cs s ≡ There b
+HeaderWritten = (to : ℕ → Option ℕ) (words : List ℕ) (end : ℕ) (cs : List Chunk) (s w : ℕ) (b : Body) → InOrder words 0 end cs → end ≤ length words → cell_in to words cs s ≡ There b
     → count_of w ≡ count_of (slice_index words s) → class_of w ≡ class_of (slice_index words s)
     → Rewrites to words (slice_set words s w) end cs s (There (body_from (fields_of w) b.words))
 
 -- the word of a forwarder is written
 abbrev pub TargetWritten : Type 0
-TargetWritten = (to : ℕ → Option ℕ) (words : List ℕ) (end : ℕ) (cs : List Chunk) (s w : ℕ) → Cuts words 0 end cs → end ≤ length words → is_moved (cell_in to words cs s) ≡ true
+TargetWritten = (to : ℕ → Option ℕ) (words : List ℕ) (end : ℕ) (cs : List Chunk) (s w : ℕ) → InOrder words 0 end cs → end ≤ length words → is_moved (cell_in to words cs s) ≡ true
     → Rewrites to words (slice_set words (s + 1) w) end cs s (Moved (start_named to words w))
 
 -- ---- a chunk behind the last one

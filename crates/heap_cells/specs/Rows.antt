@@ -1,27 +1,13 @@
 -- A row of chunks, as it is read: what a start tells, where starts stand, and how a range that is read without a fault becomes a row.
-use Rattle.std.specs.Prelude.{ℕ, ◌≡◌, ◌≢◌, ◌+◌, ◌-◌, ◌<◌, ◌≤◌, max, List, ◌++◌, map, take, drop, length, slice_index, slice_index_or, true, if◌then◌else◌, nat_eq, Option, Ok}
+use Rattle.std.specs.Prelude.{ℕ, ◌≡◌, ◌≢◌, ◌+◌, ◌-◌, ◌<◌, ◌≤◌, max, List, ◌++◌, map, length, slice_index, slice_index_or, true, nat_eq, Option, Ok}
 use Rattle.std.specs.List.{All, Contains}
 use Rattle.object_header.specs.Fields.{fields_of}
-use Rattle.object_header.specs.Head.{count_of, class_of, overflow_slots_of}
+use Rattle.object_header.specs.Head.{class_of}
 use Rattle.object_header.specs.declared.head.Head.{Head}
 use Rattle.object_header.specs.declared.header.TheConstants.{FREE_CLASS, FORWARDER_CLASS}
-use Rattle.spur_graph.specs.Chunks.{Chunk, leads, chunk_of, IsChunk, Cuts, chunks_from, chunks}
+use Rattle.object_header.specs.Chunks.{Chunk, leads, chunk_of, IsChunk, Cuts, InOrder, chunks_from, chunks, slots_at, slots_from}
 use Rattle.spur_graph.specs.Cells.{Body, cell_in, cell_from, body_from, start_named, is_start, is_moved, is_there, target_of, body_of, is_formed, pointer_count, unit_count}
 use Rattle.spur_graph.specs.Places.{head_at, place, IsBadObject}
-
--- the number of slots of the chunk that starts at `s`, from its head words
-unfoldable pub slots_at : List ℕ → ℕ → ℕ
-slots_at words s = if leads (slice_index words s) then overflow_slots_of (slice_index words (s - 1)) else count_of (slice_index words s)
-
--- the words of these slots
-abbrev pub slots_from : List ℕ → ℕ → List ℕ
-slots_from words s = take (slots_at words s) (drop (s + 1) words)
-
--- a header stands there, with its overflow word where it has one, and its slots are among the words
-pub record StandsAt (words : List ℕ) (s : ℕ) : Type 0 where
-  pub below : s + 1 < length words
-  pub behind : leads (slice_index words s) ≡ true → 1 ≤ s
-  pub fits : s + 1 + slots_at words s ≤ length words
 
 -- the starts of a row
 abbrev pub starts_of : List Chunk → List ℕ
@@ -31,7 +17,7 @@ starts_of cs = map (λ (c : Chunk). c.start) cs
 abbrev pub ChunksAre : Type 0
 ChunksAre = (words : List ℕ) (cs : List Chunk) → Cuts words 0 (length words) cs → chunks words ≡ cs
 
--- what the words at a start tell of what stands there; a row that begins at 0 ends at `end`
+-- what the words at a start tell of what stands there, where these chunks stand in order among the words up to `end`
 pub record ReadsStart (to : ℕ → Option ℕ) (words : List ℕ) (end : ℕ) (cs : List Chunk) (s : ℕ) : Type 0 where
   pub stands : Contains (starts_of cs) s
   pub below : s + 1 < end
@@ -44,7 +30,7 @@ pub record ReadsStart (to : ℕ → Option ℕ) (words : List ℕ) (end : ℕ) (
   pub body : is_there (cell_in to words cs s) ≡ true → body_of (cell_in to words cs s) ≡ body_from (fields_of (slice_index words s)) (slots_from words s)
 
 abbrev pub StartRead : Type 0
-StartRead = (to : ℕ → Option ℕ) (words : List ℕ) (end : ℕ) (cs : List Chunk) (s : ℕ) → Cuts words 0 end cs → is_start (cell_in to words cs s) ≡ true → ReadsStart to words end cs s
+StartRead = (to : ℕ → Option ℕ) (words : List ℕ) (end : ℕ) (cs : List Chunk) (s : ℕ) → InOrder words 0 end cs → is_start (cell_in to words cs s) ≡ true → ReadsStart to words end cs s
 
 -- the chunk of the start `s` ends before that of the start `t` begins
 pub record EndsBefore (words : List ℕ) (s t : ℕ) : Type 0 where
@@ -60,7 +46,7 @@ pub record AreStarts (words : List ℕ) (end : ℕ) (cs : List Chunk) : Type 0 w
   pub apart : (s t : ℕ) → Contains (starts_of cs) s → Contains (starts_of cs) t → s < t → EndsBefore words s t
 
 abbrev pub StartsRise : Type 0
-StartsRise = (words : List ℕ) (end : ℕ) (cs : List Chunk) → Cuts words 0 end cs → AreStarts words end cs
+StartsRise = (words : List ℕ) (end : ℕ) (cs : List Chunk) → InOrder words 0 end cs → AreStarts words end cs
 
 -- the slots of an object whose head was read
 pub record ReadsObject (b : Body) (h : Head) : Type 0 where

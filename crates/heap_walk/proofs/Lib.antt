@@ -1,4 +1,3 @@
 pub mod Bits
 pub mod Chunks
-pub mod Heads
-pub mod Tiles
+pub mod Walked

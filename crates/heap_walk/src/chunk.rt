@@ -1,7 +1,7 @@
-ghost use Rattle.std.specs.Prelude.{◌≡◌, ◌+◌, ◌<◌, ◌≤◌, length, IfOk, List, slice_index};
-ghost use Rattle.object_header.specs.Head.{class_of};
-ghost use Rattle.heap_walk.specs.Chunks.{chunk_at, kind_of, Tiles, IsFirstOf};
-ghost use Rattle.heap_walk.specs.declared.chunk.Chunk.{Chunk};
+ghost use Rattle.std.specs.Prelude.{◌≡◌, ◌+◌, ◌<◌, ◌≤◌, length, IfOk, List, slice_index, slice_range};
+ghost use Rattle.object_header.specs.Chunks.{chunk_of, IsChunk, Cuts};
+ghost use Rattle.object_header.specs.Head.{head_of, class_of};
+ghost use Rattle.heap_walk.specs.Chunks.{kind_of, chunk_read, IsPlacedAs, IsFirstOf};
 
 use object_header::{FORWARDER_CLASS, FREE_CLASS, HeadError, Header, read_head};
 use spur_words::Region;
@@ -47,20 +47,22 @@ pub struct Chunk {
 /// The chunk whose first word is at the index `at`, in a range that ends at `end`. The errors are
 /// those of [`read_head`] on the words from `at` to `end`.
 ///
-/// On a range that is cut into chunks without a rest there is no error, and the chunk ends where
-/// the next one begins or at `end`: so a walk by [`Chunk::words`] reaches exactly `end`.
-#[tactic(auto, unfolding(crate::specs::Chunks::chunk_at))]
+/// On a range that is cut into chunks the answer is the first of them, and the others cut the rest:
+/// so a walk by [`Chunk::words`] that meets no error meets these chunks, and ends exactly at `end`.
+#[tactic(auto, using(crate::proofs::Chunks::read_stands, crate::proofs::Chunks::read_first))]
 pub fn next_chunk(region: &Region, at: usize, end: usize) -> Result<Chunk, HeadError>
     requires before { at < end }
     requires within { end ≤ length region.now }
-    ensures value { result ≡ chunk_at region.now at end }
+    ensures value { result ≡ chunk_read at (head_of (slice_range region.now at end)) }
+    ensures chunk { IfOk result (λ _. IsChunk region.now at (chunk_of at (slice_index region.now at))) }
+    ensures places { IfOk result (λ c. IsPlacedAs c (chunk_of at (slice_index region.now at))) }
+    ensures row { IfOk result (λ c. (cs : List _) → Cuts region.now at end cs
+        → IsFirstOf region.now end cs c) }
 
     // What a walk asks of a chunk, so that its proof need not open the definition.
     ensures place { IfOk result (λ c. (c.at ≡ at) × (at + c.words ≤ end)) }
     ensures start { IfOk result (λ c. (at ≤ c.start) × (c.start + 1 < at + c.words)) }
     ensures kind { IfOk result (λ c. c.kind ≡ kind_of (class_of (slice_index region.now c.start))) }
-    ensures tiled { (cs : List Chunk) → Tiles region.now at end cs
-        → IsFirstOf region.now at end cs result }
 {
     let head = match read_head(region.window(at, end - at)) {
         Ok(head) => head,

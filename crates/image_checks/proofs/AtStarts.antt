@@ -6,11 +6,12 @@ use Rattle.object_header.specs.Head.{class_of}
 use Rattle.heap_walk.specs.declared.starts.StartMap.{StartMap}
 use Rattle.heap_walk.specs.Starts.{has_start, covered}
 use Rattle.spur_graph.specs.Segments.{Segment, word_in}
-use Rattle.spur_graph.specs.Chunks.{chunks}
+use Rattle.object_header.specs.Chunks.{chunks}
 use Rattle.spur_graph.specs.Cells.{Store, is_start, is_there, first, lead, any_below}
 use Rattle.spur_graph.specs.Ordinary.{page_places, passes, tells, is_internal, is_ordinary, is_good_reference}
 use Rattle.spur_graph.specs.FileStores.{file_store}
 use Rattle.heap_cells.specs.Rows.{ReadsStart}
+use Rattle.heap_cells.proofs.Cutting.{all-in_order}
 use Rattle.heap_cells.proofs.CellKinds.{moved_starts, start_is_there_or_moved, no_start_is_not_there}
 use Rattle.heap_cells.proofs.Starts.{start-read, starts-rise}
 use Rattle.image_references.specs.References as references
@@ -20,7 +21,7 @@ use Rattle.image_checks.specs.Checked.{IsChecked}
 
 module _ {segs : List Segment} {words : List ℕ} {map : StartMap} (k : IsChecked segs words map) where
   reads : (s : ℕ) → is_start ((file_store segs words).cell s) ≡ true → ReadsStart (word_in segs 0) words (length words) (chunks words) s
-  reads s e = start-read (word_in segs 0) words (length words) (chunks words) s k.cut.cut e
+  reads s e = start-read (word_in segs 0) words (length words) (chunks words) s (all-in_order words k.cut.cut) e
 
   -- checked words tell where their references lead
   pub checked_leads : references.Leads (file_store segs words) segs map words
@@ -58,7 +59,7 @@ pub nil_ordinary : {segs : List Segment} {words : List ℕ} → IsCut segs words
 unfolding is_internal
 nil_ordinary {segs} {words} k f =
     let h = file_store segs words in
-    let row = starts-rise words (length words) (chunks words) k.cut in
+    let row = starts-rise words (length words) (chunks words) (all-in_order words k.cut) in
     let five : 5 ≤ length h.starts = f.five in
     let apart : (j : ℕ) → 0 < j → j < 5 → first h 0 ≢ first h j = λ j l m e. let low = row.rising 0 j l (omega (arith, five, m)) in omega (arith, low, e) in
     let none : (b : Bool) → false || false || (not true && b) ≡ false = λ b. refl in

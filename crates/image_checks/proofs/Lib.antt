@@ -1,7 +1,6 @@
 pub mod Walks
 pub mod Segmented
 pub mod Placed
-pub mod Enough
 pub mod Shortened
 pub mod Resolving
 pub mod Resolved

@@ -5,10 +5,10 @@ use Rattle.heap_walk.specs.declared.starts.StartMap.{StartMap}
 use Rattle.heap_walk.specs.Starts.{has_start, covered}
 use Rattle.object_header.specs.Head.{format_of}
 use Rattle.spur_graph.specs.Segments.{Segment, word_in}
-use Rattle.spur_graph.specs.Chunks.{chunks}
+use Rattle.object_header.specs.Chunks.{chunks, StandsAt, slots_at}
 use Rattle.spur_graph.specs.Cells.{is_there, first}
 use Rattle.spur_graph.specs.Ordinary.{body_at, root_slot, roots_slots, page_entries, is_page_body}
-use Rattle.heap_cells.specs.Rows.{StandsAt, slots_at}
+use Rattle.heap_cells.proofs.Cutting.{all-in_order}
 use Rattle.heap_cells.proofs.ObjectReads.{object-stands, object-body, object-slots, object-word}
 use Rattle.image_checks.specs.Checks.{IsCut}
 use Rattle.spur_graph.specs.FileStores.{file_store}
@@ -16,16 +16,16 @@ use Rattle.image_checks.specs.Checked.{AreFirst, AreLeft, AreWithin, is_taken, o
 
 module _ {segs : List Segment} {words : List ℕ} (k : IsCut segs words) where
   pub stands_there : (s : ℕ) → is_there ((file_store segs words).cell s) ≡ true → StandsAt words s
-  stands_there s e = object-stands (word_in segs 0) words (chunks words) k.cut s e
+  stands_there s e = object-stands (word_in segs 0) words (chunks words) (all-in_order words k.cut) s e
 
   pub body_there : (s : ℕ) → is_there ((file_store segs words).cell s) ≡ true → body_at (file_store segs words) s ≡ object_at words s
-  body_there s e = object-body (word_in segs 0) words (chunks words) k.cut s e
+  body_there s e = object-body (word_in segs 0) words (chunks words) (all-in_order words k.cut) s e
 
   pub slots_there : (s : ℕ) → is_there ((file_store segs words).cell s) ≡ true → length (body_at (file_store segs words) s).words ≡ slots_at words s
-  slots_there s e = object-slots (word_in segs 0) words (chunks words) k.cut s e
+  slots_there s e = object-slots (word_in segs 0) words (chunks words) (all-in_order words k.cut) s e
 
   pub words_there : (s i : ℕ) → is_there ((file_store segs words).cell s) ≡ true → i < length (body_at (file_store segs words) s).words → get_or (body_at (file_store segs words) s).words i 0 ≡ get_or words (s + 1 + i) 0
-  words_there s i e l = object-word (word_in segs 0) words (chunks words) k.cut s e i l
+  words_there s i e l = object-word (word_in segs 0) words (chunks words) (all-in_order words k.cut) s e i l
 
   -- the words of an object lie within all words
   pub end_there : (s : ℕ) → is_there ((file_store segs words).cell s) ≡ true → s + 1 + length (body_at (file_store segs words) s).words ≤ length words

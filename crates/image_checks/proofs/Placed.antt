@@ -1,7 +1,6 @@
 -- What stands in the chunk at which a walk over all words is.
-use Rattle.std.proofs.Common.{◌≡◌, ◌≢◌, ℕ, Bool, ◌+◌, ◌<◌, ◌≤◌, max, inl, inr, refl, sym, ap, ◌∙◌, arith, List, length, drop, get_or, set, subst, Option, Ok, true, false, nat_lt, nat_eq, not, ◌&&◌, ◌||◌}
-use mathlib.Core.Bool.{and-false, or-false}
-use Rattle.std.proofs.lemmas.Bool.{cases_lt, cases_eq, cases_Bool, lt-ltb, le-ltb, eq-eqb, ne_eqb, false≢true}
+use Rattle.std.proofs.Common.{◌≡◌, ℕ, Bool, ◌+◌, ◌<◌, ◌≤◌, inl, inr, refl, sym, ap, ◌∙◌, arith, List, length, drop, get_or, set, subst, Option, Ok, true, false, nat_lt, nat_eq, not, ◌&&◌, ◌||◌}
+use Rattle.std.proofs.lemmas.Bool.{cases_lt, cases_eq, cases_Bool, false≢true}
 use Rattle.std.proofs.lemmas.Bool.Decides.{nat_tests}
 use Rattle.std.proofs.lemmas.List.{length-take, length-drop, length-map, get_or-set_same, get_or-set_other}
 use Rattle.std.proofs.lemmas.List.Elements.{Contains-get_or}
@@ -9,14 +8,13 @@ use Rattle.std.specs.List.{Contains}
 use Rattle.object_header.specs.Fields.{Fields, fields_of}
 use Rattle.object_header.specs.Head.{class_of, format_of, is_unformed}
 use Rattle.object_header.specs.declared.head.Head.{Head}
-use Rattle.spur_graph.specs.Chunks.{Chunk, Cuts, chunks}
-use Rattle.spur_graph.specs.Cells.{Body, cell_in, cell_from, body_from, body_of, start_named, store_in, is_start, is_there}
+use Rattle.object_header.specs.Chunks.{Chunk, Cuts, InOrder, chunks, slots_at, slots_from}
+use Rattle.spur_graph.specs.Cells.{Body, cell_in, cell_from, body_from, body_of, start_named, store_in, is_there}
 use Rattle.spur_graph.specs.Places.{head_at, place, is_bad_root}
-use Rattle.heap_cells.specs.Rows.{slots_at, slots_from, starts_of, AllRead}
-use Rattle.heap_cells.proofs.CellKinds.{start_from}
+use Rattle.heap_cells.specs.Rows.{starts_of, AllRead}
 use Rattle.heap_cells.proofs.Members.{In, in_list, chunk_of_start}
-use Rattle.heap_cells.proofs.Cutting.{stands, shape, cell-at}
-use Rattle.heap_cells.proofs.Starts.{read_cell-is, start-read, starts-rise}
+use Rattle.heap_cells.proofs.Cutting.{stands, shape, cell-at, all-in_order}
+use Rattle.heap_cells.proofs.Starts.{read_cell-is}
 use Rattle.heap_cells.proofs.HeadReads.{from-head}
 use Rattle.heap_cells.proofs.Ranges.{range-cuts}
 use Rattle.heap_cells.proofs.Wholes.{place-is-start, place-is-end}
@@ -29,7 +27,7 @@ there-of f next ws e = elim (cases_Bool (nat_eq f.class 0)) [
 ]
 
 -- what stands at the start of a chunk of a row, by its header
-cell-of : (to : ℕ → Option ℕ) (words : List ℕ) (end : ℕ) (cs : List Chunk) (c : Chunk) (s header : ℕ) → Cuts words 0 end cs → In cs c → c.start ≡ s → header ≡ get_or words s 0
+cell-of : (to : ℕ → Option ℕ) (words : List ℕ) (end : ℕ) (cs : List Chunk) (c : Chunk) (s header : ℕ) → InOrder words 0 end cs → In cs c → c.start ≡ s → header ≡ get_or words s 0
     → cell_in to words cs s ≡ cell_from (fields_of header) (start_named to words (get_or words (s + 1) 0)) (slots_from words s)
 cell-of to words end cs c s header t m e h =
     let there : cell_in to words cs c.start ≡ cell_from (fields_of (get_or words c.start 0)) (start_named to words (get_or words (c.start + 1) 0)) (slots_from words c.start) =
@@ -81,47 +79,8 @@ module _ (words : List ℕ) (none : AllRead words 0 (length words)) where
         stands = here;
         header = g.header;
         told = g.told;
-        cell = λ to. cell-of to words (length words) (chunks words) c.0 (at + h.lead) h.header row c.1 c.2 g.header;
+        cell = λ to. cell-of to words (length words) (chunks words) c.0 (at + h.lead) h.header (all-in_order words row) c.1 c.2 g.header;
       }
-
-  -- ---- starts
-
-  -- between the first word of a chunk and that of the next there is one start at most
-  alone : (k at s : ℕ) (h : Head) (to : ℕ → Option ℕ) → Chunked words k at h → h.words ≡ h.lead + 1 + max 1 h.slots → h.lead ≤ 1 → at ≤ s → s < at + h.words → s ≢ at + h.lead
-      → is_start (cell_in to words (chunks words) s) ≡ true → ⊥
-  alone k at s h to c size lead low high other on =
-      let r = start-read to words (length words) (chunks words) s row on in
-      let rise = starts-rise words (length words) (chunks words) row in
-      elim (cases_lt s (at + h.lead)) [
-        | inl before ↦ let e = rise.apart s (at + h.lead) r.stands c.stands before in omega (arith, e.next)
-        | inr behind ↦ let e = rise.apart (at + h.lead) s c.stands r.stands (omega (arith, other)) in omega (arith, e.next, e.slots, c.told, size)
-      ]
-
-  pub marked : (k at s : ℕ) (h : Head) (to : ℕ → Option ℕ) → Chunked words k at h → h.words ≡ h.lead + 1 + max 1 h.slots → h.lead ≤ 1
-      → (nat_lt s at && is_start (cell_in to words (chunks words) s)) || (nat_eq s (at + h.lead) && not (nat_eq (class_of h.header) 0))
-      ≡ nat_lt s (at + h.words) && is_start (cell_in to words (chunks words) s)
-  marked k at s h to c size lead = elim (cases_eq s (at + h.lead)) [
-    | inl e ↦
-        let on : is_start (cell_in to words (chunks words) s) ≡ not (nat_eq (class_of h.header) 0) =
-        ap (λ n. is_start (cell_in to words (chunks words) n)) e ∙ ap is_start (c.cell to) ∙ start_from (fields_of h.header) _ _ in
-        rw (eq-eqb s (at + h.lead) e, le-ltb s at (omega (arith, e)), lt-ltb s (at + h.words) (omega (arith, e, size))) (sym on)
-    | inr n ↦ rw (ne_eqb s (at + h.lead) n) (elim (cases_lt s at) [
-      | inl a ↦ rw (lt-ltb s at a, lt-ltb s (at + h.words) (omega arith)) (or-false (is_start (cell_in to words (chunks words) s)))
-      | inr a ↦ rw (le-ltb s at a) (elim (cases_lt s (at + h.words)) [
-        | inr b ↦ rw (le-ltb s (at + h.words) b) refl
-        | inl b ↦ rw (lt-ltb s (at + h.words) b) (elim (cases_Bool (is_start (cell_in to words (chunks words) s))) [
-          | inl on ↦ absurd (alone k at s h to c size lead a b n on)
-          | inr off ↦ sym off
-        ])
-      ])
-    ])
-  ]
-
-  pub all-marked : (to : ℕ → Option ℕ) (at s : ℕ) → length words ≤ at → nat_lt s at && is_start (cell_in to words (chunks words) s) ≡ is_start (cell_in to words (chunks words) s)
-  all-marked to at s l = elim (cases_Bool (is_start (cell_in to words (chunks words) s))) [
-    | inl on ↦ let r = start-read to words (length words) (chunks words) s row on in let b = r.below in rw (on, lt-ltb s at (omega (arith, b))) refl
-    | inr off ↦ rw off (and-false (nat_lt s at))
-  ]
 
   -- ---- roots
 

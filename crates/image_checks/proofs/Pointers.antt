@@ -5,11 +5,11 @@ use Rattle.std.specs.Result.{IsErrAnd}
 use Rattle.object_header.specs.Formats.{pointer_slots_of}
 use Rattle.object_header.specs.Head.{format_of, literals_of}
 use Rattle.spur_graph.specs.Segments.{Segment, word_in}
-use Rattle.spur_graph.specs.Chunks.{chunks}
+use Rattle.object_header.specs.Chunks.{chunks, StandsAt, slots_at}
 use Rattle.spur_graph.specs.Cells.{Body, Store, is_there, pointer_count}
 use Rattle.spur_graph.specs.ImageCauses.{IsLeast, FindsLeast}
 use Rattle.spur_graph.specs.Ordinary.{body_at, is_ordinary, is_good_word, is_bad_slot}
-use Rattle.heap_cells.specs.Rows.{StandsAt, slots_at}
+use Rattle.heap_cells.proofs.Cutting.{all-in_order}
 use Rattle.heap_cells.proofs.CellKinds.{there_starts}
 use Rattle.heap_cells.proofs.Bodies.{pointers_fit}
 use Rattle.heap_cells.proofs.ObjectReads.{object-pointers}
@@ -58,7 +58,7 @@ module _ {segs : List Segment} {words : List ℕ} (k : IsCut segs words) where
       → pointer_slots_of (format_of (get_or words s 0)) (slots_at words s) (literals_of (get_or words (s + 1) 0)) ≡ pointer_count (body_at (file_store segs words) s)
   count_ordinary s e =
       let there = ordinary_there (file_store segs words) s e in
-      object-pointers (word_in segs 0) words (chunks words) k.cut s there (k.formed s there)
+      object-pointers (word_in segs 0) words (chunks words) (all-in_order words k.cut) s there (k.formed s there)
 
   -- so many slots are among the words
   pub slot_inside : (s n i : ℕ) → is_ordinary (file_store segs words) s ≡ true
@@ -114,9 +114,9 @@ module _ {segs : List Segment} {words : List ℕ} (k : IsCut segs words) where
   apart : (s t : ℕ) → is_ordinary (file_store segs words) s ≡ true → is_ordinary (file_store segs words) t ≡ true → s < t → s + 1 + slots_at words s ≤ t
   apart s t e f l =
       let h = file_store segs words in
-      let row = starts-rise words (length words) (chunks words) k.cut in
-      let a = start-read (word_in segs 0) words (length words) (chunks words) s k.cut (there_starts (h.cell s) (ordinary_there h s e)) in
-      let b = start-read (word_in segs 0) words (length words) (chunks words) t k.cut (there_starts (h.cell t) (ordinary_there h t f)) in
+      let row = starts-rise words (length words) (chunks words) (all-in_order words k.cut) in
+      let a = start-read (word_in segs 0) words (length words) (chunks words) s (all-in_order words k.cut) (there_starts (h.cell s) (ordinary_there h s e)) in
+      let b = start-read (word_in segs 0) words (length words) (chunks words) t (all-in_order words k.cut) (there_starts (h.cell t) (ordinary_there h t f)) in
       (row.apart s t a.stands b.stands l).slots
 
   -- the least bad slot of an object is the least of all, where the objects before it have none

@@ -5,7 +5,7 @@ use Rattle.std.proofs.lemmas.Bool.Decides.{nat_tests}
 use Rattle.std.proofs.lemmas.List.{length-set, get_or-set_other}
 use Rattle.std.specs.Option.{unwrap_or}
 use Rattle.spur_graph.specs.Segments.{Segment, word_in, word_count, total_words}
-use Rattle.spur_graph.specs.Chunks.{Cuts, chunks}
+use Rattle.object_header.specs.Chunks.{Cuts, chunks}
 use Rattle.spur_graph.specs.Chains.{follow}
 use Rattle.spur_graph.specs.ImageCauses.{IsLeast}
 use Rattle.spur_graph.specs.Ordinary.{is_bad_forwarder}
@@ -18,7 +18,8 @@ use Rattle.heap_segments.specs.Rising.{has_address}
 use Rattle.heap_segments.proofs.Rising.{word-cons, word-none, total-cons}
 use Rattle.heap_cells.proofs.CellKinds.{moved_starts, moved_is_not_there, unmoved_is_there, no_start_is_not_moved, no_start_is_not_there, moved_is_told}
 use Rattle.heap_cells.proofs.Chains.{follow-end, follow-step, follow-none}
-use Rattle.heap_cells.proofs.Cutting.{chunks-are}
+use Rattle.heap_cells.proofs.Writing.{keeps-row}
+use Rattle.heap_cells.proofs.Cutting.{chunks-are, all-in_order}
 use Rattle.heap_cells.proofs.ObjectWrites.{target-written}
 use Rattle.heap_cells.proofs.Starts.{start-read}
 use Rattle.image_checks.specs.Checks.{IsLost, IsResolved}
@@ -54,7 +55,7 @@ module _ (segs : List Segment) (words : List ℕ) (starts : StartMap) (k : AreKn
   named-below a n e = omega (arith, word-below segs 0 a n e, k.all)
 
   pub start-below : (s : ℕ) → is_start ((file_store segs words).cell s) ≡ true → s + 1 < length words
-  start-below s on = (start-read (word_in segs 0) words (length words) (chunks words) s k.cut.cut on).below
+  start-below s on = (start-read (word_in segs 0) words (length words) (chunks words) s (all-in_order words k.cut.cut) on).below
 
   pub moved-below : (s : ℕ) → moved_in (file_store segs words) s ≡ true → s + 1 < length words
   moved-below s on = start-below s (moved_starts ((file_store segs words).cell s) on)
@@ -66,14 +67,14 @@ module _ (segs : List Segment) (words : List ℕ) (starts : StartMap) (k : AreKn
   pub told_moved : (s : ℕ) (told : Bool) → told ≡ has_start starts s && nat_eq (class_of (get_or words s 0)) 8 → moved_in (file_store segs words) s ≡ told
   told_moved s told e =
       moved_is_told ((file_store segs words).cell s) (has_start starts s) (nat_eq (class_of (get_or words s 0)) 8) (k.marked s)
-      (λ on. (start-read (word_in segs 0) words (length words) (chunks words) s k.cut.cut on).moved)
+      (λ on. (start-read (word_in segs 0) words (length words) (chunks words) s (all-in_order words k.cut.cut) on).moved)
       ∙ sym e
 
   none-behind : (x : ℕ) → x ≡ length words → is_start ((file_store segs words).cell x) ≡ false
   none-behind x e = elim (cases_Bool (is_start ((file_store segs words).cell x))) [ inl on ↦ absurd (omega (arith, start-below x on, e)) | inr off ↦ off ]
 
   target-is : (s : ℕ) → moved_in (file_store segs words) s ≡ true → target_in (file_store segs words) s ≡ start_named (word_in segs 0) words (get_or words (s + 1) 0)
-  target-is s on = (start-read (word_in segs 0) words (length words) (chunks words) s k.cut.cut (moved_starts ((file_store segs words).cell s) on)).target on
+  target-is s on = (start-read (word_in segs 0) words (length words) (chunks words) s (all-in_order words k.cut.cut) (moved_starts ((file_store segs words).cell s) on)).target on
 
   pub target-some : (s n : ℕ) → moved_in (file_store segs words) s ≡ true → word_in segs 0 (get_or words (s + 1) 0) ≡ Some n → target_in (file_store segs words) s ≡ n
   target-some s n on e = target-is s on ∙ ap (λ o. unwrap_or o (length words)) e
@@ -154,9 +155,9 @@ module _ (segs : List Segment) (words : List ℕ) (starts : StartMap) (k : AreKn
   written at end e on w is ends =
       let new = set words (at + 1) end in
       let h = file_store segs words in
-      let r = target-written (word_in segs 0) words (length words) (chunks words) at end k.cut.cut (omega arith) on in
+      let r = target-written (word_in segs 0) words (length words) (chunks words) at end (all-in_order words k.cut.cut) (omega arith) on in
       let long : length new ≡ length words = length-set words (at + 1) end in
-      let row : Cuts new 0 (length new) (chunks words) = subst (λ n. Cuts new 0 n (chunks words)) (sym long) r.row in
+      let row : Cuts new 0 (length new) (chunks words) = subst (λ n. Cuts new 0 n (chunks words)) (sym long) (keeps-row words new 0 (length words) (chunks words) k.cut.cut r.kept) in
       let same : chunks new ≡ chunks words = chunks-are new (chunks words) row in
       let cell : (t : ℕ) → (file_store segs new).cell t ≡ cond (nat_eq t at) (Moved e) (h.cell t) = λ t.
       ap (λ cs. cell_in (word_in segs 0) new cs t) same ∙ r.cell t ∙ ap (λ n. cond (nat_eq t at) (Moved n) (h.cell t)) (ap (λ o. unwrap_or o (length words)) w) in

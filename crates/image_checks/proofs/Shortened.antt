@@ -6,7 +6,7 @@ use Rattle.spur_graph.specs.Cells.{Moved, Store, final, is_start, is_moved, is_t
 use Rattle.heap_cells.proofs.CellKinds.{there_is_not_moved, moved_starts, moved_is_not_there}
 use Rattle.heap_cells.proofs.Chains.{follow-end, follow-step, follow-none, follow-more}
 use Rattle.image_checks.specs.Chains.{Ends, Shortens}
-use Rattle.image_checks.proofs.Enough.{enough}
+use Rattle.heap_cells.proofs.Enough.{enough}
 
 -- two ends of one chain are one
 ends-meet : (moved : ℕ → Bool) (target : ℕ → ℕ) (m n s : ℕ) → moved (follow moved target m s) ≡ false → moved (follow moved target n s) ≡ false → follow moved target m s ≡ follow moved target n s

@@ -1,7 +1,7 @@
 -- Chains of forwarders while they are resolved.
 use Rattle.std.specs.Prelude.{ℕ, ◌≡◌, ◌+◌, ◌⊎◌, List, length, slice_index, true, false}
 use Rattle.spur_graph.specs.Segments.{Segment}
-use Rattle.spur_graph.specs.Chunks.{chunks}
+use Rattle.object_header.specs.Chunks.{chunks}
 use Rattle.spur_graph.specs.Cells.{Moved, Store, final, is_moved, is_there}
 use Rattle.heap_walk.specs.Starts.{has_start, covered}
 use Rattle.heap_walk.specs.declared.starts.StartMap.{StartMap}

@@ -1,6 +1,7 @@
 -- What earlier passes over an image's words leave to later ones.
 use Rattle.std.specs.Prelude.{ℕ, ◌≡◌, ◌≢◌, ◌+◌, ◌<◌, ◌≤◌, List, length, slice_index, Bool, true, false, not, ◌&&◌, ◌||◌, nat_eq, nat_lt, Option, Some, None, Result, Ok, Err}
 use Rattle.std.specs.List.{list_any}
+use Rattle.object_header.specs.Chunks.{StandsAt, slots_at, slots_from}
 use Rattle.object_header.specs.Fields.{fields_of}
 use Rattle.object_header.specs.Head.{format_of}
 use Rattle.heap_walk.specs.declared.starts.StartMap.{StartMap}
@@ -8,7 +9,6 @@ use Rattle.heap_walk.specs.Starts.{has_start, covered}
 use Rattle.spur_graph.specs.Segments.{Segment}
 use Rattle.spur_graph.specs.Cells.{Body, Moved, Store, first, lead, is_there, any_below, body_from}
 use Rattle.spur_graph.specs.Ordinary.{page_entries, page_places, passes, body_at, root_slot, tells, is_nil_slot, is_entered, is_bad_page, is_bad_slot}
-use Rattle.heap_cells.specs.Rows.{StandsAt, slots_at, slots_from}
 use Rattle.image_checks.specs.Checks.{IsCut, HasFive, HasStarts}
 use Rattle.spur_graph.specs.FileStores.{file_store}
 

@@ -1,7 +1,7 @@
 -- What the words of an image's heap are tested for, and what the tests leave.
 use Rattle.std.specs.Prelude.{ℕ, ◌≡◌, ◌≢◌, ◌+◌, ◌<◌, ◌≤◌, List, length, take, Bool, true, if◌then◌else◌}
 use Rattle.spur_graph.specs.Segments.{Segment, total_words}
-use Rattle.spur_graph.specs.Chunks.{Cuts, chunks}
+use Rattle.object_header.specs.Chunks.{Cuts, chunks}
 use Rattle.spur_graph.specs.Cells.{Moved, Store, first, final, is_start, is_there, is_moved, is_formed}
 use Rattle.spur_graph.specs.Ordinary.{body_at, roots_slots, page_places, is_ordinary, is_bad_forwarder, is_bad_page, is_bad_entry, is_bad_slot}
 use Rattle.spur_graph.specs.Places.{IsBadObject}

@@ -3,7 +3,7 @@
 ghost use Rattle.std.specs.Prelude.{◌≡◌, ◌<◌, ℕ, length, Some, true, false, IfSome, IfNone, OnOk};
 ghost use Rattle.spur_graph.specs.ImageCauses.{FindsLeast};
 ghost use Rattle.spur_graph.specs.Segments.{word_in};
-ghost use Rattle.spur_graph.specs.Chunks.{chunks};
+ghost use Rattle.object_header.specs.Chunks.{chunks};
 ghost use Rattle.spur_graph.specs.Cells.{Moved, final, is_moved, is_there};
 ghost use Rattle.spur_graph.specs.Ordinary.{is_bad_forwarder};
 ghost use Rattle.heap_walk.specs.Starts.{has_start, covered};

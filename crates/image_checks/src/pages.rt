@@ -1,19 +1,18 @@
 // The internal objects: the hidden roots, the free lists object, and the class table pages.
 ghost use Rattle.std.specs.Prelude.{◌≡◌, ◌+◌, ◌<◌, ℕ, length, slice_index, OnOk, true, false, not, ◌&&◌, nat_eq};
+ghost use Rattle.object_header.specs.Chunks.{StandsAt, slots_at};
 ghost use Rattle.object_header.specs.Head.{format_of};
 ghost use Rattle.heap_walk.specs.Starts.{has_start, covered};
 ghost use Rattle.spur_graph.specs.Segments.{word_in};
 ghost use Rattle.spur_graph.specs.Cells.{is_there};
 ghost use Rattle.spur_graph.specs.ImageCauses.{FindsLeast};
 ghost use Rattle.spur_graph.specs.Ordinary.{page_places, page_entries, root_slot, is_bad_page};
-ghost use Rattle.heap_cells.specs.Rows.{StandsAt, slots_at};
 ghost use Rattle.image_checks.specs.Checks.{IsCut, IsBadPlace, HasOrdinary};
 ghost use Rattle.spur_graph.specs.FileStores.{file_store};
 ghost use Rattle.image_checks.specs.Checked.{IsChecked, AreFirst, AreLeft, AreWithin, is_free_page};
 
-use heap_cells::slots_of;
 use heap_segments::AddressMap;
-use heap_walk::StartMap;
+use heap_walk::{StartMap, slots_of};
 use image_references::is_forwarder;
 use object_header::{ARRAY_FORMAT, Header};
 use spur_graph::{FREE_LISTS, HIDDEN_ROOTS, PAGE_ENTRIES, PAGE_PLACES};

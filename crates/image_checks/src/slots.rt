@@ -7,9 +7,8 @@ ghost use Rattle.image_checks.specs.Checks.{IsBadPointer, HasOrdinary};
 ghost use Rattle.spur_graph.specs.FileStores.{file_store};
 ghost use Rattle.image_checks.specs.Checked.{IsChecked, IsBadPointerOf};
 
-use heap_cells::pointers_of;
 use heap_segments::AddressMap;
-use heap_walk::StartMap;
+use heap_walk::{StartMap, pointers_of};
 use image_references::ordinary_start;
 use immediates::is_immediate_word;
 use object_header::Header;

@@ -8,7 +8,7 @@ use Rattle.spur_graph.specs.declared.answer.Value.{Value}
 use Rattle.spur_graph.specs.ImageFile.{special_word, last_hash}
 use Rattle.spur_graph.specs.Graph.{Handle, handle_cmp}
 use Rattle.spur_graph.specs.Segments.{Segment, word_count, total_words, word_in, address_in, end_of, greatest_end, segments, all_words}
-use Rattle.spur_graph.specs.Chunks.{Cuts, chunks}
+use Rattle.object_header.specs.Chunks.{Cuts, chunks}
 use Rattle.spur_graph.specs.Cells.{Store}
 use Rattle.spur_graph.specs.Places.{place, is_bad_root, IsBadRoot}
 use Rattle.spur_graph.specs.Ordinary.{is_good_reference, is_bad_page, is_bad_entry, is_bad_slot}
@@ -19,6 +19,7 @@ use Rattle.heap_segments.proofs.Rising.{total-cons, address-cons}
 use Rattle.heap_cells.specs.Rows.{AllRead}
 use Rattle.heap_cells.specs.Settled.{IsLoadable, IsNamed}
 use Rattle.heap_cells.specs.Closing.{IsHeld}
+use Rattle.heap_cells.proofs.Cutting.{all-in_order}
 use Rattle.heap_cells.proofs.Starts.{starts-rise}
 use Rattle.heap_cells.proofs.Wholes.{place-is-start, place-is-end}
 use Rattle.heap_cells.proofs.Internals.{outer}
@@ -42,7 +43,7 @@ good_root words row read none k l = elim (cases_lt k (length (chunks words))) [
       let p = place-is-start words k read low in
       let at : ℕ = place words 0 (length words) k in
       let c = chunked words read k at p.head refl p.inside p.read in
-      let fit = (starts-rise words (length words) (chunks words) row).fit (at + p.head.lead) c.stands in
+      let fit = (starts-rise words (length words) (chunks words) (all-in_order words row)).fit (at + p.head.lead) c.stands in
       elim (cases_Bool (is_bad_root k p.head)) [
         | inl bad ↦ absurd (none at (record { k = k; first = l; is = refl; bad = inr (p.inside, (p.head, p.read, bad)) }))
         | inr good ↦ record { at = at; head = p.head; chunk = c; room = omega (arith, fit, c.told); good = good }

@@ -3,12 +3,13 @@ use Rattle.std.proofs.Common.{◌≡◌, ℕ, true, ◌<◌, ◌≤◌, List, []
 use Rattle.std.proofs.lemmas.List.{get_or_append_left, get_or-append-add}
 use Rattle.std.proofs.lemmas.List.Elements.{All-append, Contains-get_or}
 use Rattle.std.specs.List.{All}
-use Rattle.spur_graph.specs.Chunks.{Chunk, chunk_of, Cuts, chunks}
+use Rattle.object_header.specs.Chunks.{Chunk, chunk_of, Cuts, chunks}
 use Rattle.spur_graph.specs.Cells.{Empty, Store, cell_in, is_moved, target_of}
-use Rattle.spur_graph.specs.Heaps.{IsClear, heap_to, heap_store}
+use Rattle.spur_graph.specs.Heaps.{IsClear, heap_to, row_store}
 use Rattle.heap_cells.specs.Rows.{starts_of, AreStarts}
 use Rattle.heap_cells.specs.RowWrites.{IsFreeChunk, Appends}
 use Rattle.heap_cells.specs.Settled.{IsLoadable, IsNamed, IsSettled}
+use Rattle.heap_cells.proofs.Cutting.{all-in_order}
 use Rattle.heap_cells.proofs.Both.{Both, moved-same, target-same, target_starts}
 use Rattle.heap_cells.proofs.Members.{in_list, start_of_chunk, listed}
 use Rattle.heap_cells.proofs.Starts.{starts-rise}
@@ -19,12 +20,12 @@ use Rattle.image_laws.specs.Behind.{AreClear, GoesOn, SettledGoesOn}
 one : {X : Type 0} (P : X → Type 0) (x : X) → P x → All P (x ∷ [])
 one P x p = λ j d l. subst P (let e : j ≡ 0 = omega (arith, l) in ap (λ k. get_or (x ∷ []) k d) (sym e)) p
 
-module _ (h : Store) (words room : List ℕ) (n : IsNamed h) (l : IsLoadable h) (s : IsSettled h (heap_store words)) (cut : Cuts words 0 (length words) (chunks words)) (free : IsFreeChunk room) where
-  both : Both h (heap_store words)
+module _ (h : Store) (words room : List ℕ) (n : IsNamed h) (l : IsLoadable h) (s : IsSettled h (row_store words)) (cut : Cuts words 0 (length words) (chunks words)) (free : IsFreeChunk room) where
+  both : Both h (row_store words)
   both = record { named = n; loadable = l; settled = s }
 
   stand : AreStarts words (length words) (chunks words)
-  stand = starts-rise words (length words) (chunks words) cut
+  stand = starts-rise words (length words) (chunks words) (all-in_order words cut)
 
   -- a forwarder names a start, which is among the words
   low : (t : ℕ) → is_moved (cell_in heap_to words (chunks words) t) ≡ true → target_of (cell_in heap_to words (chunks words) t) < length words
@@ -41,19 +42,19 @@ module _ (h : Store) (words room : List ℕ) (n : IsNamed h) (l : IsLoadable h) 
   on : Appends heap_to words room (chunks words) last
   on = appended heap_to words room (chunks words) cut free low
 
-  cell-same : (t : ℕ) → (heap_store (words ++ room)).cell t ≡ (heap_store words).cell t
+  cell-same : (t : ℕ) → (row_store (words ++ room)).cell t ≡ (row_store words).cell t
   cell-same t = ap (λ cs. cell_in heap_to (words ++ room) cs t) on.chunks ∙ on.cell t
 
   -- no chunk of the words starts behind them
-  behind : (heap_store words).cell last.start ≡ Empty
-  behind = (reads-cells heap_to words (length words) (chunks words) cut).none last.start (λ c. let far = on.behind in let near : last.start < length words = subst (λ u. u < length words) c.2 (stand.below c.0 last.start c.1) in omega (arith, far, near))
+  behind : (row_store words).cell last.start ≡ Empty
+  behind = (reads-cells heap_to words (length words) (chunks words) (all-in_order words cut)).none last.start (λ c. let far = on.behind in let near : last.start < length words = subst (λ u. u < length words) c.2 (stand.below c.0 last.start c.1) in omega (arith, far, near))
 
-  settled : IsSettled h (heap_store (words ++ room))
+  settled : IsSettled h (row_store (words ++ room))
   settled = record {
     more = s.more ++ last.start ∷ [];
     starts = ap (map (λ (c : Chunk). c.start)) on.chunks ∙ on.starts ∙ ap (λ ss. ss ++ last.start ∷ []) s.starts ∙ append_assoc h.starts s.more (last.start ∷ []);
-    free = All-append (λ t. (heap_store (words ++ room)).cell t ≡ Empty) s.more (last.start ∷ []) (λ j d k. cell-same (get_or s.more j d) ∙ s.free j d k)
-        (one (λ t. (heap_store (words ++ room)).cell t ≡ Empty) last.start (cell-same last.start ∙ behind));
+    free = All-append (λ t. (row_store (words ++ room)).cell t ≡ Empty) s.more (last.start ∷ []) (λ j d k. cell-same (get_or s.more j d) ∙ s.free j d k)
+        (one (λ t. (row_store (words ++ room)).cell t ≡ Empty) last.start (cell-same last.start ∙ behind));
     cells = λ t. cell-same t ∙ s.cells t;
     names = let a : h.names ≤ length words = s.names in omega (arith, a, length-append words room);
     behind = All-append (λ t. h.names ≤ t) s.more (last.start ∷ []) s.behind (one (λ t. h.names ≤ t) last.start (let a : h.names ≤ length words = s.names in let b = on.behind in omega (arith, a, b)));

@@ -1,15 +1,15 @@
 -- The passes joined.
-use Rattle.std.proofs.Common.{◌≡◌, ◌≢◌, ℕ, cond, ◌+◌, ◌<◌, ◌≤◌, ◌^◌, List, [], ◌∷◌, ◌++◌, length, map, get_or, refl, sym, ap, ◌∙◌, subst, arith, inl, inr, length-append}
+use Rattle.std.proofs.Common.{◌≡◌, ◌≢◌, ℕ, cond, ◌+◌, ◌<◌, ◌^◌, List, [], ◌∷◌, ◌++◌, length, map, get_or, refl, sym, ap, ◌∙◌, subst, arith, inl, inr, length-append}
 use Rattle.std.proofs.lemmas.Bool.{false≢true, cases_eq, eq-eqb, ne_eqb}
 use Rattle.std.proofs.lemmas.List.{append-nil, nil_from_length}
 use Rattle.spur_graph.specs.declared.limits.Limits.{Limits}
 use Rattle.spur_graph.specs.Segments.{total_words}
 use Rattle.heap_segments.specs.Rising.{IsRising}
-use Rattle.spur_graph.specs.Chunks.{Chunk, chunk_of, Cuts, chunks}
+use Rattle.object_header.specs.Chunks.{Chunk, chunk_of, Cuts, chunks}
 use Rattle.spur_graph.specs.Cells.{Store}
 use Rattle.spur_graph.specs.CellRoom.{room_sizes}
-use Rattle.spur_graph.specs.ImageCauses.{BadBase, TooLarge, NoHeap, BadObject, BadRoot, BadForwarder, BadPage, BadEntry, BadSlot, BadSpecial, most_words}
-use Rattle.spur_graph.specs.Heaps.{heap_store}
+use Rattle.spur_graph.specs.ImageCauses.{BadBase, TooLarge, NoHeap, BadObject, BadRoot, BadForwarder, BadPage, BadEntry, BadSlot, BadSpecial}
+use Rattle.spur_graph.specs.Heaps.{row_store}
 use Rattle.heap_cells.specs.Settled.{IsLoadable, IsNamed, IsSettled}
 use Rattle.spur_graph.specs.FileStores.{file_store}
 use Rattle.image_laws.specs.Causes.{NoneBefore, AreCauses}
@@ -67,7 +67,7 @@ room_one n e = ap (λ b. cond b [] (n ∷ [])) (ne_eqb n 0 e)
 -- what stands behind the chunks of the file
 record HasRoom (limits : Limits) (words : List ℕ) (mid : Store) (all : List ℕ) : Type 0 where
   behind : List Chunk
-  settled : IsSettled mid (heap_store all)
+  settled : IsSettled mid (row_store all)
   cut : Cuts all 0 (length all) (chunks all)
   clear : AreClear all (chunks all)
   row : chunks all ≡ chunks words ++ behind
@@ -103,14 +103,17 @@ has_room limits words mid done room n l a r = elim (cases_eq limits.room 0) [
 ]
 
 pub made_stands : MadeStands
-made_stands bytes limits segs words mid done room v k a r m =
+made_stands bytes limits segs words mid done room v k a r m few =
     let s : CanSettle bytes segs words mid = checked_can_settle bytes limits segs words mid k in
-    let n : IsCounted bytes limits = counted bytes limits k.before in
-    let h : HasRoom limits words mid v.words = subst (HasRoom limits words mid) (sym m.words_are) (has_room limits words mid done room s.named s.loadable a r) in
-    let few : length words + limits.room ≤ most_words = subst (λ ws. length ws + limits.room ≤ most_words) (sym k.words_are) n.few in
-    heap_stands bytes limits segs words mid h.behind v s.file (record {
+    let h : HasRoom limits words mid (done ++ room) = has_room limits words mid done room s.named s.loadable a r in
+    heap_stands bytes limits segs words mid h.behind (done ++ room) v s.file (record {
       resolved = k.resolved;
       loaded = record {
+        rest = m.rest;
+        words_are = m.words_are;
+        spaces_are = m.spaces_are;
+        behind = m.behind;
+        none_mourn = m.none_mourn;
         named = s.named;
         loadable = s.loadable;
         settled = h.settled;
@@ -121,7 +124,7 @@ made_stands bytes limits segs words mid done room v k a r m =
         clear = h.clear;
         state_bits = subst (λ x. x < 2 ^ 32) (sym m.state) (omega arith);
         header = m.header;
-        few = subst (λ x. x ≤ most_words) (sym h.long) few;
+        few = few;
       };
       state = m.state;
       within = m.within;

@@ -12,7 +12,7 @@ use Rattle.spur_graph.specs.declared.limits.Limits.{Limits}
 use Rattle.spur_graph.specs.Value.{value_of, is_immediate_word}
 use Rattle.spur_graph.specs.Graph.{handle_cmp}
 use Rattle.spur_graph.specs.Chains.{follow}
-use Rattle.spur_graph.specs.Chunks.{Chunk}
+use Rattle.object_header.specs.Chunks.{Chunk}
 use Rattle.spur_graph.specs.Cells.{Body, Cell, Empty, Moved, There, Store, is_start, is_moved, is_there, is_formed, target_of, body_of, pointers, pointer_count, first, final, lead, any_below}
 use Rattle.spur_graph.specs.Ordinary.{page_places, page_entries, class_limit, is_at, passes, body_at, root_slot, tells, is_nil_slot, is_first, is_page_body, is_page, is_internal, is_ordinary, ordinary_starts, is_good_reference, is_good_word, is_bad_forwarder, is_bad_page, is_bad_entry, is_bad_slot, has_page, page_of, entry, has_entry, is_no_index, is_entered}
 use Rattle.spur_graph.specs.CellGraph.{reference, read, node_of, nodes_of, has_class, classes_of, graph_of}

@@ -1,10 +1,10 @@
 -- How the words of a file name starts, and the names of the starts, which are addresses.
 use Rattle.std.specs.Prelude.{ℕ, List, length}
 use Rattle.spur_graph.specs.Segments.{Segment, address_in}
-use Rattle.spur_graph.specs.Chunks.{Cuts, chunks}
+use Rattle.object_header.specs.Chunks.{Cuts, chunks}
 use Rattle.heap_segments.specs.Rising.{IsRising}
 use Rattle.heap_cells.specs.Settled.{IsNamed}
-use Rattle.heap_cells.specs.Settling.{AreNames}
+use Rattle.heap_laws.specs.Settling.{AreNames}
 use Rattle.image_checks.specs.Checks.{AreOf}
 use Rattle.spur_graph.specs.FileStores.{file_store}
 

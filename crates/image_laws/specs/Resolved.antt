@@ -4,7 +4,7 @@ use Rattle.std.specs.FinMap.{FinMap}
 use Rattle.spur_graph.specs.declared.answer.Value.{Value}
 use Rattle.spur_graph.specs.declared.limits.Limits.{Limits}
 use Rattle.spur_graph.specs.Graph.{handle_cmp}
-use Rattle.spur_graph.specs.Chunks.{Chunk}
+use Rattle.object_header.specs.Chunks.{Chunk}
 use Rattle.spur_graph.specs.Cells.{Moved, Store, is_start, is_moved, is_there, first, final, lead}
 use Rattle.spur_graph.specs.Ordinary.{body_at, is_nil_slot, is_page, is_internal, is_ordinary, is_good_reference, is_good_word, is_bad_forwarder, is_bad_page, is_bad_entry, is_bad_slot, has_page, page_of, entry, is_entered}
 use Rattle.spur_graph.specs.CellGraph.{read, graph_of}

@@ -1,20 +1,27 @@
 -- Settled words with a room behind them are those of a heap, which stands for the bytes that were read.
-use Rattle.std.proofs.Common.{◌≡◌, ℕ, ◌+◌, ◌<◌, ◌≤◌, ◌%◌, ◌^◌, List, ◌++◌, length, take, map, refl, ap, ◌∙◌, subst, arith, inl, inr, eqb, length-take, Result, Ok, Err, IfOk}
+use Rattle.std.proofs.lemmas.List.{length-take-le, length-drop, take-append-drop}
+use Rattle.std.proofs.Common.{◌≡◌, ℕ, ◌+◌, ◌*◌, ◌<◌, ◌≤◌, ◌%◌, ◌^◌, List, [], ◌++◌, length, take, drop, map, refl, sym, ap, ◌∙◌, subst, arith, inl, inr, eqb, length-take, Result, Ok, Err, IfOk}
 use Rattle.std.proofs.lemmas.Bool.{cases_Bool}
 use Rattle.std.specs.FinMap.{empty}
 use Rattle.spur_graph.specs.declared.limits.Limits.{Limits}
 use Rattle.spur_graph.specs.ImageFile.{special_word, last_hash}
 use Rattle.spur_graph.specs.Segments.{Segment, segments, all_words, total_words}
-use Rattle.spur_graph.specs.Chunks.{Chunk}
+use Rattle.object_header.specs.Chunks.{Chunk}
 use Rattle.spur_graph.specs.CellRoom.{room_sizes}
 use Rattle.spur_graph.specs.ImageCauses.{most_words}
-use Rattle.spur_graph.specs.Heaps.{View, IsCarried, IsWhole, Stands}
+use Rattle.spur_graph.specs.Graph.{Graph}
+use Rattle.spur_graph.specs.Names.{Iso}
+use Rattle.spur_graph.specs.Room.{Room}
+use Rattle.spur_graph.specs.Step.{SameRoom}
+use Rattle.spur_graph.specs.Heaps.{View, Whole, IsCarried, IsWhole, Stands}
+use Rattle.spur_graph.specs.Spaces.{fresh_spaces}
 use Rattle.spur_graph.specs.LoadedGraph.{loaded_graph, loaded_room}
 use Rattle.spur_graph.specs.FileStores.{file_store}
+use Rattle.spur_heap.specs.Views.{Adopts, AreClear}
 use Rattle.image_settle.specs.Rooms.{HasRoom, room_chunks}
 use Rattle.image_laws.specs.Whole.{IsLoaded}
 use Rattle.image_laws.proofs.Rows.{none_is_lost}
-use Rattle.image_laws.proofs.Whole.{loaded_is_whole, heap_stands}
+use Rattle.image_laws.proofs.Whole.{loaded_is_whole, heap_stands, clear_seen}
 use Rattle.image_load.specs.declared.image.Image.{Image}
 use Rattle.image_load.specs.Passes.{AreTried}
 use Rattle.image_load.specs.Images.{IsImageOf, IsSoundImage, AreSettled}
@@ -33,10 +40,16 @@ sizes at room = elim (cases_Bool (eqb room 0)) [
   | inr off ↦ rw off refl
 ]
 
-module _ (segs : List Segment) (old front : List ℕ) (special word : ℕ) (a : AreSettled segs old front special word) (v : View) (room : ℕ)
-    (r : HasRoom (file_store segs a.mid) front v.words room) (none : v.handles ≡ empty) (is : v.special ≡ word) (bits : v.hash < 2 ^ 32) (carried : IsCarried v.carried) (few : length v.words ≤ most_words) where
-  loaded : IsLoaded (file_store segs a.mid) special v
+module _ (segs : List Segment) (old front all : List ℕ) (special word : ℕ) (a : AreSettled segs old front special word) (v : View) (room : ℕ)
+    (r : HasRoom (file_store segs a.mid) front all room) (rest : List ℕ) (words : v.words ≡ all ++ rest) (places : v.spaces ≡ fresh_spaces (length all) v.limits) (behind : length rest ≡ v.limits.eden + 2 * v.limits.survivor) (mourn : v.mourners ≡ [])
+    (none : v.handles ≡ empty) (is : v.special ≡ word) (bits : v.hash < 2 ^ 32) (carried : IsCarried v.carried) (few : length v.words ≤ most_words) where
+  loaded : IsLoaded (file_store segs a.mid) special all v
   loaded = record {
+    rest = rest;
+    words_are = words;
+    spaces_are = places;
+    behind = behind;
+    none_mourn = mourn;
     named = a.alone.named;
     loadable = a.loadable;
     settled = r.settled;
@@ -51,16 +64,19 @@ module _ (segs : List Segment) (old front : List ℕ) (special word : ℕ) (a : 
   }
 
   pub whole : IsWhole v
-  whole = loaded_is_whole (file_store segs a.mid) special v loaded
+  whole = loaded_is_whole (file_store segs a.mid) special all v loaded
+
+  pub clear : AreClear v
+  clear = clear_seen (file_store segs a.mid) special all v loaded
 
   pub stands : (bytes : List ℕ) (limits : Limits) → segs ≡ segments bytes → old ≡ all_words bytes → length old ≡ total_words segs → special ≡ special_word bytes → v.hash ≡ last_hash bytes % 2 ^ 32
-      → v.limits ≡ limits → room ≡ limits.room → length v.words ≡ length old + limits.room → Stands v (loaded_graph bytes) (loaded_room bytes limits)
-  stands bytes limits es ew all special_is state within size long =
-      heap_stands bytes limits segs old (file_store segs a.mid) (room_chunks (length front) room) v
-      (record { segments_are = es; words_are = ew; rising = a.rising; of = all; cut = a.cut; ends = none_is_lost (file_store segs old) a.lost })
+      → v.limits ≡ limits → room ≡ limits.room → length all ≡ length old + limits.room → Stands v (loaded_graph bytes) (loaded_room bytes limits)
+  stands bytes limits es ew total special_is state within size long =
+      heap_stands bytes limits segs old (file_store segs a.mid) (room_chunks (length front) room) all v
+      (record { segments_are = es; words_are = ew; rising = a.rising; of = total; cut = a.cut; ends = none_is_lost (file_store segs old) a.lost })
       (record {
         resolved = a.resolved;
-        loaded = subst (λ s. IsLoaded (file_store segs a.mid) s v) special_is loaded;
+        loaded = subst (λ s. IsLoaded (file_store segs a.mid) s all v) special_is loaded;
         state = state;
         within = within;
         row = r.chunks_are ∙ ap (λ cs. cs ++ room_chunks (length front) room) a.row;
@@ -69,26 +85,61 @@ module _ (segs : List Segment) (old front : List ℕ) (special word : ℕ) (a : 
       })
 
 module _ (image : Image) (sound : IsSoundImage image) (front region : List ℕ) (word : ℕ) (a : AreSettled image.map (take (total_words image.map) image.bare.region) front image.header.special word)
-    (r : HasRoom (file_store image.map a.mid) front region image.bare.limits.room) (long : length region ≡ length image.bare.region) where
+    (r : HasRoom (file_store image.map a.mid) front (take image.bare.old_end region) image.bare.limits.room) (long : length region ≡ length image.bare.region) where
   -- the heap that is made of an image
   abbrev pub view : View
-  view = record { words = region; handles = empty; special = word; hash = image.header.last_hash % 2 ^ 32; carried = image.header.carried; limits = image.bare.limits }
+  view = record {
+    words = region;
+    spaces = fresh_spaces image.bare.old_end image.bare.limits;
+    mourners = [];
+    handles = empty;
+    special = word;
+    hash = image.header.last_hash % 2 ^ 32;
+    carried = image.header.carried;
+    limits = image.bare.limits;
+    phase = Whole;
+  }
 
   bits : image.header.last_hash % 2 ^ 32 < 2 ^ 32
   bits = omega arith
 
   few : length region ≤ most_words
-  few = omega (arith, long, sound.few)
+  few = let f = sound.few in omega (arith, long, f)
+
+  front_long : length (take image.bare.old_end region) ≡ image.bare.old_end
+  front_long = let l = sound.long in length-take-le image.bare.old_end region (omega (arith, long, l))
+
+  words : region ≡ take image.bare.old_end region ++ drop image.bare.old_end region
+  words = sym (take-append-drop image.bare.old_end region)
+
+  behind : length (drop image.bare.old_end region) ≡ image.bare.limits.eden + 2 * image.bare.limits.survivor
+  behind = let l = sound.long in omega (arith, length-drop image.bare.old_end region, long, l)
+
+  places : fresh_spaces image.bare.old_end image.bare.limits ≡ fresh_spaces (length (take image.bare.old_end region)) image.bare.limits
+  places = ap (λ n. fresh_spaces n image.bare.limits) (sym front_long)
 
   pub image_whole : IsWhole view
-  image_whole = whole image.map (take (total_words image.map) image.bare.region) front image.header.special word a view image.bare.limits.room r refl refl bits sound.carried few
+  image_whole = whole image.map (take (total_words image.map) image.bare.region) front (take image.bare.old_end region) image.header.special word a view image.bare.limits.room r (drop image.bare.old_end region) words places behind refl refl refl bits sound.carried few
+
+  pub image_clear : AreClear view
+  image_clear = clear image.map (take (total_words image.map) image.bare.region) front (take image.bare.old_end region) image.header.special word a view image.bare.limits.room r (drop image.bare.old_end region) words places behind refl refl refl bits sound.carried few
 
   pub image_stands : (bytes : List ℕ) → IsImageOf bytes image → Stands view (loaded_graph bytes) (loaded_room bytes image.bare.limits)
   image_stands bytes i =
       let old : List ℕ = take (total_words image.map) image.bare.region in
-      let all : length old ≡ total_words image.map = omega (arith, length-take (total_words image.map) image.bare.region, sound.long) in
-      stands image.map old front image.header.special word a view image.bare.limits.room r refl refl bits sound.carried few bytes image.bare.limits i.map_is i.words_are all i.special_is
-      (ap (λ n. n % 2 ^ 32) i.hash_is) refl refl (omega (arith, long, all, sound.long))
+      let all : length old ≡ total_words image.map = let o = sound.old in let l = sound.long in omega (arith, length-take (total_words image.map) image.bare.region, o, l) in
+      stands image.map old front (take image.bare.old_end region) image.header.special word a view image.bare.limits.room r (drop image.bare.old_end region) words places behind refl refl refl bits sound.carried few bytes image.bare.limits i.map_is i.words_are all i.special_is
+      (ap (λ n. n % 2 ^ 32) i.hash_is) refl refl (let o = sound.old in omega (arith, front_long, all, o))
+
+-- the heap that is made stands for what its places stand for
+pub adopted_stands : (v new : View) (g : Graph) (room : Room) → Adopts v new → IsWhole new → Stands v g room → Stands new g room
+adopted_stands v new g room a whole s = record {
+  whole = whole;
+  place = s.place;
+  back = s.back;
+  graph = subst (λ h. Iso g h s.place s.back) (sym a.graph) s.graph;
+  figures = subst (λ r. SameRoom room r s.place) (sym a.room) s.figures;
+}
 
 -- what holds of an answer of one kind
 pub of_ok : {A E : Type 0} (r : Result A E) (Q R : A → Type 0) → ((x : A) → Q x → R x) → IfOk r Q → IfOk r R

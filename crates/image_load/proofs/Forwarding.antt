@@ -3,7 +3,7 @@ use Rattle.std.proofs.Common.{◌≡◌, ℕ, List, length, sym, ◌∙◌}
 use Rattle.heap_walk.specs.declared.starts.StartMap.{StartMap}
 use Rattle.heap_walk.specs.Starts.{has_start, covered}
 use Rattle.spur_graph.specs.Segments.{Segment}
-use Rattle.spur_graph.specs.Chunks.{chunks}
+use Rattle.object_header.specs.Chunks.{chunks}
 use Rattle.image_checks.specs.Checks.{IsCut, HasStarts, IsResolved, IsLost}
 use Rattle.spur_graph.specs.FileStores.{file_store}
 use Rattle.image_checks.proofs.Resolved.{keeps-five}

@@ -2,12 +2,13 @@
 use Rattle.std.proofs.Common.{◌≡◌, ℕ, true, false, not, ◌&&◌, ◌+◌, ◌/◌, ◌<◌, ◌≤◌, ltb, List, length, get_or, sym, ap, ◌∙◌, arith, refl, inl, inr, Some, None, Option}
 use Rattle.std.proofs.lemmas.Bool.{false≢true, cases_Bool, and_parts, ltb-true, not-true}
 use Rattle.spur_graph.specs.Segments.{Segment, word_in}
-use Rattle.spur_graph.specs.Chunks.{chunks}
+use Rattle.object_header.specs.Chunks.{chunks}
 use Rattle.spur_graph.specs.Cells.{Store, final, is_moved, is_there, pointer_count}
 use Rattle.spur_graph.specs.Ordinary.{page_places, page_entries, class_limit, body_at, root_slot, is_nil_slot, is_ordinary, is_good_word, is_bad_page, is_bad_entry, has_page, page_of}
 use Rattle.image_checks.specs.Checks.{IsCut, IsLost, IsBadPlace, IsBadPointer}
 use Rattle.spur_graph.specs.FileStores.{file_store}
 use Rattle.image_checks.specs.Checked.{AreFirst, HasPages}
+use Rattle.heap_cells.proofs.Cutting.{all-in_order}
 use Rattle.heap_cells.proofs.CellKinds.{moved_starts}
 use Rattle.heap_cells.proofs.Starts.{start-read}
 use Rattle.std.specs.Option.{unwrap_or}
@@ -31,7 +32,7 @@ module _ {segs : List Segment} {words : List ℕ} (k : IsCut segs words) where
   lost_inside n (s, is, bad) =
       let h = file_store segs words in
       let moved = (and_parts (is_moved (h.cell s)) (not (is_there (h.cell (final h s)))) bad).0 in
-      let at = start-read (word_in segs 0) words (length words) (chunks words) s k.cut (moved_starts (h.cell s) moved) in
+      let at = start-read (word_in segs 0) words (length words) (chunks words) s (all-in_order words k.cut) (moved_starts (h.cell s) moved) in
       omega (arith, at.below, is)
 
   pub pointer_inside : (n : ℕ) → IsBadPointer (file_store segs words) n → n ≤ length words

@@ -22,6 +22,7 @@ pub image_of : (bytes : List ℕ) (limits : Limits) (f : Front) (bare : Bare) �
 image_of bytes limits f bare same front words = record {
   special_is = front.header_is.special_is;
   hash_is = front.header_is.hash_is;
+  carried_is = front.header_is.carried_is;
   map_is = front.map_is;
   words_are = words ∙ all_are bytes f.map front.map_is;
   passes = subst (λ l. Passes bytes l last_row) (sym same) front.passes;

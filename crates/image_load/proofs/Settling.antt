@@ -2,8 +2,8 @@
 use Rattle.std.proofs.Common.{◌≡◌, ℕ, ◌≤◌, ◌^◌, List, length, slice_index, arith, ◌∙◌}
 use Rattle.std.specs.List.{All}
 use Rattle.spur_graph.specs.Segments.{Segment}
-use Rattle.spur_graph.specs.Chunks.{Chunk, Cuts, chunks}
-use Rattle.spur_graph.specs.Heaps.{heap_store, IsClear}
+use Rattle.object_header.specs.Chunks.{Chunk, Cuts, chunks}
+use Rattle.spur_graph.specs.Heaps.{row_store, IsClear}
 use Rattle.heap_segments.specs.Rising.{IsRising}
 use Rattle.heap_cells.specs.Settled.{IsSettled, settled_word}
 use Rattle.image_checks.specs.Checks.{AreOf}
@@ -30,7 +30,7 @@ module _ (segs : List Segment) (old mid : List ℕ) (special : ℕ) (f : Found) 
     small = omega (arith, p.forwarded.long, small);
   }
 
-  pub settled : (new : List ℕ) (word : ℕ) → word ≡ settled_word (file_store segs mid) special → length new ≡ length mid → IsSettled (file_store segs mid) (heap_store new)
+  pub settled : (new : List ℕ) (word : ℕ) → word ≡ settled_word (file_store segs mid) special → length new ≡ length mid → IsSettled (file_store segs mid) (row_store new)
       → Cuts new 0 (length new) (chunks new) → chunks new ≡ chunks mid → All (λ (c : Chunk). IsClear (slice_index new c.start)) (chunks new) → AreSettled segs old new special word
   settled new word is long k cut row clear = record {
     mid = mid;

@@ -1,10 +1,10 @@
 -- An image as it was read, and its objects once they are settled.
-use Rattle.std.specs.Prelude.{ℕ, ◌≡◌, ◌≢◌, ◌+◌, ◌<◌, ◌≤◌, List, length, take, true, false}
+use Rattle.std.specs.Prelude.{ℕ, ◌≡◌, ◌≢◌, ◌+◌, ◌*◌, ◌<◌, ◌≤◌, List, length, take, true, false}
 use Rattle.std.specs.FinMap.{empty}
 use Rattle.heap_walk.specs.Starts.{has_start, covered}
-use Rattle.spur_graph.specs.ImageFile.{special_word, last_hash}
+use Rattle.spur_graph.specs.ImageFile.{header_bytes, special_word, last_hash}
 use Rattle.spur_graph.specs.Segments.{Segment, segments, all_words, total_words}
-use Rattle.spur_graph.specs.Chunks.{Cuts, chunks}
+use Rattle.object_header.specs.Chunks.{Cuts, chunks}
 use Rattle.spur_graph.specs.Ordinary.{is_good_reference}
 use Rattle.spur_graph.specs.ImageCauses.{most_words}
 use Rattle.spur_graph.specs.Heaps.{IsCarried}
@@ -37,6 +37,7 @@ load_error file.Memory = errors.Memory
 pub record IsImageOf (bytes : List ℕ) (image : Image) : Type 0 where
   pub special_is : image.header.special ≡ special_word bytes
   pub hash_is : image.header.last_hash ≡ last_hash bytes
+  pub carried_is : image.header.carried ≡ take header_bytes bytes
   pub map_is : image.map ≡ segments bytes
   pub words_are : take (total_words image.map) image.bare.region ≡ all_words bytes
   pub passes : Passes bytes image.bare.limits last_row
@@ -45,9 +46,9 @@ pub record IsImageOf (bytes : List ℕ) (image : Image) : Type 0 where
 pub record IsSoundImage (image : Image) : Type 0 where
   pub carried : IsCarried image.header.carried
   pub some : 0 < length image.map
-  pub one_space : (image.bare.limits.eden ≡ 0) × (image.bare.limits.survivor ≡ 0)
   pub room : image.bare.limits.room ≢ 1
-  pub long : total_words image.map + image.bare.limits.room ≡ length image.bare.region
+  pub old : total_words image.map + image.bare.limits.room ≡ image.bare.old_end
+  pub long : image.bare.old_end + image.bare.limits.eden + 2 * image.bare.limits.survivor ≡ length image.bare.region
   pub few : length image.bare.region ≤ most_words
   pub covers : covered image.bare.starts ≡ length image.bare.region
   pub unmarked : (s : ℕ) → has_start image.bare.starts s ≡ false

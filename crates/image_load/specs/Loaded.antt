@@ -6,12 +6,14 @@ use Rattle.spur_graph.specs.ImageCauses.{FirstCause, Short, Format, HeaderSize, 
 use Rattle.image_load.specs.declared.error.LoadError.{LoadError}
 use Rattle.image_load.specs.declared.error.LoadError.TheVariants as errors
 
--- the limits that a heap can have so far: no eden, no survivor spaces, and no room of one word
+-- the limits that a heap can have: a table for saved fields, no room of one word, and no more than the most words and entries of each
 pub record AreLimits (limits : Limits) : Type 0 where
-  pub no_eden : limits.eden ≡ 0
-  pub no_survivor : limits.survivor ≡ 0
+  pub most_eden : limits.eden ≤ 2 ^ 27
+  pub most_survivor : limits.survivor ≤ 2 ^ 27
   pub room : limits.room ≢ 1
   pub most_room : limits.room ≤ 2 ^ 27
+  pub some_saved : 1 ≤ limits.saved
+  pub most_saved : limits.saved ≤ 2 ^ 27
 
 -- a refusal names the first cause
 abbrev pub IsCauseOf : List ℕ → Limits → LoadError → Type 0

@@ -6,7 +6,7 @@ use Rattle.heap_cells.specs.Rows.{AllRead}
 use Rattle.spur_graph.specs.declared.limits.Limits.{Limits}
 use Rattle.spur_graph.specs.ImageFile.{special_word}
 use Rattle.spur_graph.specs.Segments.{Segment, segments, all_words}
-use Rattle.spur_graph.specs.Chunks.{chunks}
+use Rattle.object_header.specs.Chunks.{chunks}
 use Rattle.spur_graph.specs.Cells.{Store}
 use Rattle.spur_graph.specs.Ordinary.{is_good_reference}
 use Rattle.spur_graph.specs.Places.{IsBadRoot}

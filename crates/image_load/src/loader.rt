@@ -1,9 +1,10 @@
 // An image file, loaded.
-ghost use Rattle.std.specs.Prelude.{◌≡◌, ℕ, List, IfOk, IfErr, IfSome};
+ghost use Rattle.std.specs.Prelude.{◌≡◌, ℕ, List, take, IfOk, IfErr, IfSome};
 ghost use Rattle.std.specs.FinMap as map;
+ghost use Rattle.spur_graph.specs.ImageFile.{header_bytes};
 ghost use Rattle.spur_graph.specs.ImageCauses.{IsAccepted};
 ghost use Rattle.spur_graph.specs.LoadedGraph.{loaded_graph, loaded_room};
-ghost use Rattle.spur_graph.specs.Heaps.{Stands};
+ghost use Rattle.spur_graph.specs.Heaps.{Stands, Whole};
 ghost use Rattle.image_load.specs.Loaded.{AreLimits, IsCauseOf, LoadCause};
 ghost use Rattle.image_load.specs.Passes.{IsNoFault};
 ghost use Rattle.image_load.specs.Images.{IsImageOf, IsSoundImage};
@@ -25,6 +26,8 @@ fn adopt(alloc: Global, image: Image) -> Result<Heap, LoadError>
     requires { IsSoundImage image }
     ensures stands { IfOk result (λ h. (bytes : List ℕ) → IsImageOf bytes image → IsAccepted bytes image.bare.limits × Stands h (loaded_graph bytes) (loaded_room bytes image.bare.limits)) }
     ensures fresh { IfOk result (λ h. (h.handles ≡ map.empty) × (h.limits ≡ image.bare.limits)) }
+    ensures carried { IfOk result (λ h. h.carried ≡ image.header.carried) }
+    ensures unmarked { IfOk result (λ h. h.phase ≡ Whole) }
     ensures refused { IfErr result (λ e. (bytes : List ℕ) → IsImageOf bytes image → IsCauseOf bytes image.bare.limits e) }
     ensures fault { IfErr result IsNoFault }
 {
@@ -40,15 +43,18 @@ fn adopt(alloc: Global, image: Image) -> Result<Heap, LoadError>
         Err(error) => return Err(error),
     };
     put_room(region, map.words(), room);
-    Ok(Heap::adopt(
+    let heap = Heap::adopt(
         bare,
         special,
         (header.last_hash % HASH_STATES) as u32,
         header.carried,
-    ))
+    );
+    // That it is whole is known of each heap.
+    heap.whole();
+    Ok(heap)
 }
 
-/// Loads the image file of this name, with room for further objects as the limits say. Eden and survivor spaces have no words so far.
+/// Loads the image file of this name, with room for further objects as the limits say.
 pub fn load<F: Files>(
     alloc: Global,
     files: &mut F,
@@ -58,6 +64,8 @@ pub fn load<F: Files>(
     requires { AreLimits limits }
     ensures stands { IfOk result (λ h. IfSome (F.told files.old) (λ store. IsAccepted (store name.now) limits × Stands h (loaded_graph (store name.now)) (loaded_room (store name.now) limits))) }
     ensures fresh { IfOk result (λ h. (h.handles ≡ map.empty) × (h.limits ≡ limits)) }
+    ensures unmarked { IfOk result (λ h. h.phase ≡ Whole) }
+    ensures carried { IfOk result (λ h. IfSome (F.told files.old) (λ store. h.carried ≡ take header_bytes (store name.now))) }
     ensures refused { IfErr result (λ e. IfSome (F.told files.old) (λ store. IsCauseOf (store name.now) limits e)) }
     ensures same { F.told files.new ≡ F.told files.old }
     ensures cause { LoadCause (F.read_count files.old) (F.read_count files.new) result }

@@ -10,18 +10,18 @@ use Rattle.object_header.specs.Fields.{Fields, fields_of}
 use Rattle.object_header.specs.Head.{class_of, count_of}
 use Rattle.heap_walk.specs.declared.starts.StartMap.{StartMap}
 use Rattle.spur_graph.specs.Segments.{Segment, word_in}
-use Rattle.spur_graph.specs.Chunks.{Chunk, leads, slots_told, Cuts, chunks, slots_of}
+use Rattle.object_header.specs.Chunks.{Chunk, leads, slots_told, Cuts, chunks, slots_of}
 use Rattle.spur_graph.specs.Cells.{Body, Moved, There, Store, read_cell, cell_in, cell_from, body_from, start_named, pointer_count, first}
-use Rattle.spur_graph.specs.Heaps.{heap_to, heap_store, IsClear}
+use Rattle.spur_graph.specs.Heaps.{HasNoUnusedBits, heap_to, row_store, IsClear}
 use Rattle.heap_cells.specs.Settled.{settled_word, settled_root, settled_words, settled_cell, map_front, word_of, IsSettled}
 use Rattle.heap_cells.specs.Rows.{starts_of}
 use Rattle.heap_cells.specs.RowWrites.{KeepsChunk}
 use Rattle.heap_cells.proofs.Members.{in_list}
-use Rattle.heap_cells.proofs.Cutting.{Stands, stands, shape, cell-at, chunks-are}
+use Rattle.heap_cells.proofs.Cutting.{Stands, stands, shape, cell-at, chunks-are, all-in_order}
 use Rattle.heap_cells.proofs.ObjectWrites.{to_object}
 use Rattle.heap_cells.proofs.Writing.{keeps-row, keeps-same, cells-mapped}
 use Rattle.heap_cells.proofs.Fronts.{length-front, front-in, length-from, from-in}
-use Rattle.image_settle.specs.Settles.{IsReady, HasNoUnusedBits, IsCleared, IsTurned, unmarked, settled_slot, slot_in}
+use Rattle.image_settle.specs.Settles.{IsReady, IsCleared, IsTurned, unmarked, settled_slot, slot_in}
 use Rattle.spur_graph.specs.FileStores.{file_store}
 use Rattle.image_settle.proofs.Ready.{told}
 
@@ -94,7 +94,7 @@ module _ (segs : List Segment) (start_map ordinary_map : StartMap) (firsts old :
   cs = chunks old
 
   placed : (c : Chunk) → Contains cs c → Stands old 0 (length old) c
-  placed c m = stands old 0 (length old) cs c r.cut (in_list cs c m)
+  placed c m = stands old 0 (length old) cs c (all-in_order old r.cut) (in_list cs c m)
 
   header : (c : Chunk) → Contains cs c → fields_of (get_or mid c.start 0) ≡ unmarked (fields_of (get_or old c.start 0))
   header c m = let l = (placed c m).lies in (cleared c m c.start l.lead (omega (arith, l.room))).header refl
@@ -159,21 +159,21 @@ module _ (segs : List Segment) (start_map ordinary_map : StartMap) (firsts old :
     pub settled_clear : All (λ (c : Chunk). IsClear (get_or new c.start 0)) (chunks new)
     settled_clear k d l =
         let c = get_or (chunks new) k d in
-        let e = final_header c (subst (λ xs. Contains xs c) settled_chunks (Contains-get_or (chunks new) k d l)) in
-        record { marked = ap (λ (f : Fields). f.marked) e; grey = ap (λ (f : Fields). f.grey) e; remembered = ap (λ (f : Fields). f.remembered) e }
-
-    pub settled_unused : All (λ (c : Chunk). HasNoUnusedBits (get_or new c.start 0)) (chunks new)
-    settled_unused k d l =
-        let c = get_or (chunks new) k d in
         let m = subst (λ xs. Contains xs c) settled_chunks (Contains-get_or (chunks new) k d l) in
+        let e = final_header c m in
         let p = (placed c m).lies in
-        subst HasNoUnusedBits (sym (new_header c m)) ((cleared c m c.start p.lead (omega (arith, p.room))).unused refl)
+        record {
+          marked = ap (λ (f : Fields). f.marked) e;
+          grey = ap (λ (f : Fields). f.grey) e;
+          remembered = ap (λ (f : Fields). f.remembered) e;
+          unused = subst HasNoUnusedBits (sym (new_header c m)) ((cleared c m c.start p.lead (omega (arith, p.room))).unused refl);
+        }
 
     mid_class : (c : Chunk) → Contains cs c → class_of (get_or mid c.start 0) ≡ class_of (get_or old c.start 0)
     mid_class c m = ap (λ (f : Fields). f.class) (header c m)
 
     told_cell : (c : Chunk) → Contains cs c → h.cell c.start ≡ cell_from (fields_of (get_or old c.start 0)) (start_named (word_in segs 0) old (get_or old (c.start + 1) 0)) (slots_of old c)
-    told_cell c m = cell-at (word_in segs 0) old 0 (length old) cs c r.cut (in_list cs c m) ∙ told (word_in segs 0) old c
+    told_cell c m = cell-at (word_in segs 0) old 0 (length old) cs c (all-in_order old r.cut) (in_list cs c m) ∙ told (word_in segs 0) old c
 
     -- a slot after the first walk
     mid_slot : (c : Chunk) → Contains cs c → (i : ℕ) → i < c.slots → get_or mid (c.start + 1 + i) 0 ≡ slot_in h c.start (h.cell c.start) i (get_or old (c.start + 1 + i) 0)
@@ -228,7 +228,7 @@ module _ (segs : List Segment) (start_map ordinary_map : StartMap) (firsts old :
         ∙ cell-made h c.start f (start_named (word_in segs 0) old (get_or old (c.start + 1) 0)) (start_named heap_to new (get_or new (c.start + 1) 0)) (slots_of old c) (slots_of new c) (target c m) (slots_made c m)
         ∙ ap (settled_cell h c.start) (sym (told (word_in segs 0) old c))
 
-    pub settled : IsSettled h (heap_store new)
+    pub settled : IsSettled h (row_store new)
     settled = record {
       more = [];
       starts = ap starts_of settled_chunks ∙ sym (append-nil (starts_of cs));

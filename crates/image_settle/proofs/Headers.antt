@@ -1,9 +1,8 @@
 -- Headers by their fields.
-use Rattle.std.proofs.Common.{◌≡◌, ℕ, ◌<◌, ◌^◌, refl, ap, ◌∙◌, subst, sym}
-use Rattle.object_header.specs.Field.{field_of, with_field, IsApart}
+use Rattle.std.proofs.Common.{◌≡◌, ℕ, refl, ap, ◌∙◌}
+use Rattle.object_header.specs.Field.{field_of}
 use Rattle.object_header.specs.Fields.{Fields, fields_of}
-use Rattle.object_header.proofs.Fields.{SetsField-with_field}
-use Rattle.image_settle.specs.Settles.{HasNoUnusedBits, unmarked}
+use Rattle.image_settle.specs.Settles.{unmarked}
 use Rattle.image_settle.specs.Rooms.{free_fields}
 
 -- a header of zeros into which six fields are set
@@ -36,15 +35,3 @@ built_free n w0 w1 w2 f0 f1 f2 =
     let a0 : fields_of w0 ≡ six n 0 0 0 0 0 = f0 ∙ ap (λ (x : Fields). record x { count = n }) zero_fields in
     let a1 : fields_of w1 ≡ six n 0 0 9 0 0 = f1 ∙ ap (λ (x : Fields). record x { format = 9 }) a0 in
     f2 ∙ ap (λ (x : Fields). record x { class = 0 }) a1
-
--- ---- the bits of no field
-
-pub zero_unused : HasNoUnusedBits 0
-unfolding field_of
-zero_unused = record { low = refl; high = refl }
-
--- a field that is set leaves them as they are
-pub set_unused : (lo len w v new : ℕ) → IsApart 22 1 lo len → IsApart 54 1 lo len → v < 2 ^ len → new ≡ with_field lo len w v → HasNoUnusedBits w → HasNoUnusedBits new
-set_unused lo len w v new low high fits is k =
-    let s = SetsField-with_field w lo len v fits in
-    subst HasNoUnusedBits (sym is) (record { low = s.others 22 1 low ∙ k.low; high = s.others 54 1 high ∙ k.high })

@@ -6,12 +6,12 @@ use Rattle.std.specs.List.{Contains}
 use Rattle.object_header.specs.Fields.{fields_of}
 use Rattle.heap_walk.specs.declared.starts.StartMap.{StartMap}
 use Rattle.spur_graph.specs.Segments.{Segment, word_in}
-use Rattle.spur_graph.specs.Chunks.{Chunk, chunk_of, chunks, slots_of}
+use Rattle.object_header.specs.Chunks.{Chunk, chunk_of, chunks, slots_of}
 use Rattle.spur_graph.specs.Cells.{Store, read_cell, cell_from, start_named, is_start, is_moved, first}
 use Rattle.heap_cells.specs.Rows.{starts_of, AreStarts, ReadsStart}
 use Rattle.heap_cells.proofs.CellKinds.{there_starts, there_is_not_moved, moved_starts}
 use Rattle.heap_cells.proofs.Members.{listed, start_of_chunk}
-use Rattle.heap_cells.proofs.Cutting.{shape, cell-at}
+use Rattle.heap_cells.proofs.Cutting.{shape, cell-at, all-in_order}
 use Rattle.heap_cells.proofs.Starts.{start-read, starts-rise}
 use Rattle.image_references.specs.References.{Leads, HasOrdinary}
 use Rattle.image_settle.specs.Settles.{IsReady, Follows, IsNext}
@@ -32,7 +32,7 @@ module _ (segs : List Segment) (start_map ordinary_map : StartMap) (firsts old :
   cs = chunks old
 
   read : (s : ℕ) → is_start (h.cell s) ≡ true → ReadsStart (word_in segs 0) old (length old) cs s
-  read s k = start-read (word_in segs 0) old (length old) cs s r.cut k
+  read s k = start-read (word_in segs 0) old (length old) cs s (all-in_order old r.cut) k
 
   ready_leads : Leads h segs start_map old
   ready_leads = record {
@@ -58,7 +58,7 @@ module _ (segs : List Segment) (start_map ordinary_map : StartMap) (firsts old :
   ready_ordinary = record { has = r.ordinary; covers = r.covers.1 }
 
   rise : AreStarts old (length old) cs
-  rise = starts-rise old (length old) cs r.cut
+  rise = starts-rise old (length old) cs (all-in_order old r.cut)
 
   pub next : (new : List ℕ) (at : ℕ) (c : Chunk) → Comes old cs at c → length new ≡ length old → ((j : ℕ) → at ≤ j → get_or new j 0 ≡ get_or old j 0) → IsNext h new (get_or new c.start 0) c.start c.slots
   next new at c k len same =
@@ -71,7 +71,7 @@ module _ (segs : List Segment) (start_map ordinary_map : StartMap) (firsts old :
       (λ i b. get_or-drop (c.start + 1) new i 0 ∙ same (c.start + 1 + i) (omega arith) ∙ sym (get_or-drop (c.start + 1) old i 0)) in
       record {
         target = start_named (word_in segs 0) old (get_or old (c.start + 1) 0);
-        cell = cell-at (word_in segs 0) old 0 (length old) cs c r.cut k.inside ∙ told (word_in segs 0) old c
+        cell = cell-at (word_in segs 0) old 0 (length old) cs c (all-in_order old r.cut) k.inside ∙ told (word_in segs 0) old c
             ∙ ap (λ w. cell_from (fields_of w) (start_named (word_in segs 0) old (get_or old (c.start + 1) 0)) (slots_of old c)) (sym (same c.start low))
             ∙ ap (λ ws. cell_from (fields_of (get_or new c.start 0)) (start_named (word_in segs 0) old (get_or old (c.start + 1) 0)) (take c.slots ws)) (sym rest);
         below = omega (arith, l.room, l.before, len);

@@ -6,11 +6,12 @@ use Rattle.std.proofs.lemmas.List.{length-set, get_or-set_other, get_or-set_same
 use Rattle.object_header.specs.Fields.{fields_of}
 use Rattle.object_header.specs.Head.{class_of}
 use Rattle.spur_graph.specs.Segments.{Segment, word_in}
-use Rattle.spur_graph.specs.Chunks.{Chunk, chunk_of}
+use Rattle.object_header.specs.Chunks.{Chunk, chunk_of}
 use Rattle.spur_graph.specs.Cells.{Store, start_named}
+use Rattle.spur_graph.specs.Heaps.{HasNoUnusedBits}
 use Rattle.heap_cells.specs.Settled.{word_of}
 use Rattle.heap_cells.proofs.Cutting.{chunk_of-lies, chunk_of-at}
-use Rattle.image_settle.specs.Settles.{HasNoUnusedBits, IsCleared, IsTurned, unmarked, slot_in}
+use Rattle.image_settle.specs.Settles.{IsCleared, IsTurned, unmarked, slot_in}
 use Rattle.image_settle.proofs.Walking.{Walking, walk_goes, comes}
 
 -- the chunk at `at`, as a span

@@ -1,9 +1,9 @@
 -- A walk over the chunks of some words that writes each as it comes by.
 use Rattle.std.proofs.Common.{◌≡◌, ◌⊎◌, ℕ, ◌+◌, ◌<◌, ◌≤◌, List, [], ◌∷◌, length, get_or, refl, sym, ap, ◌∙◌, subst, inl, inr, arith}
 use Rattle.std.specs.List.{Contains}
-use Rattle.spur_graph.specs.Chunks.{Chunk, chunk_of, IsChunk, Cuts}
+use Rattle.object_header.specs.Chunks.{Chunk, chunk_of, IsChunk, Cuts}
 use Rattle.heap_cells.proofs.Members.{In, in_list}
-use Rattle.heap_cells.proofs.Cutting.{Lies, chunk_of-at, first, ends_after}
+use Rattle.heap_cells.proofs.Cutting.{Lies, chunk_of-at, first, ends_after, cuts-in_order}
 
 -- the chunk was passed, and its words were made what they are to be
 pub record Passed (R : Chunk → ℕ → ℕ → Type 0) (new : List ℕ) (at : ℕ) (c : Chunk) : Type 0 where
@@ -46,7 +46,7 @@ module _ (R : Chunk → ℕ → ℕ → Type 0) (old : List ℕ) (cs : List Chun
   comes new at w l =
       let f = front old at w.rest w.row l in
       let k = first old at f.c f.chunk in
-      let e = ends_after old (at + f.c.size) (length old) f.more f.row in
+      let e = ends_after old (at + f.c.size) (length old) f.more (cuts-in_order old (at + f.c.size) (length old) f.more f.row) in
       subst (Comes old cs at) f.chunk.is (record {
         chunk = subst (λ n. IsChunk old n f.c) (sym k.1) f.chunk;
         at = k.1;
@@ -90,4 +90,4 @@ module _ (R : Chunk → ℕ → ℕ → Type 0) (old : List ℕ) (cs : List Chun
     where
       none : (rest : List Chunk) (at : ℕ) → Cuts old at (length old) rest → length old ≤ at → (c : Chunk) → In rest c → ⊥
       none [] at t l c m = m
-      none (d ∷ more) at t l c m = let k = first old at d t.0 in let e = ends_after old (at + d.size) (length old) more t.1 in omega (arith, k.0.room, k.0.lead, k.1, e)
+      none (d ∷ more) at t l c m = let k = first old at d t.0 in let e = ends_after old (at + d.size) (length old) more (cuts-in_order old (at + d.size) (length old) more t.1) in omega (arith, k.0.room, k.0.lead, k.1, e)

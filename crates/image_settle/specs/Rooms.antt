@@ -3,9 +3,9 @@ use Rattle.std.specs.Prelude.{ℕ, ◌≡◌, ◌+◌, ◌-◌, List, [], ◌∷
 use Rattle.std.specs.List.{All}
 use Rattle.object_header.specs.Fields.{Fields, fields_of}
 use Rattle.object_header.specs.declared.header.TheConstants.{FREE_CLASS}
-use Rattle.spur_graph.specs.Chunks.{Chunk, leads, chunk_of, Cuts, chunks}
+use Rattle.object_header.specs.Chunks.{Chunk, leads, chunk_of, Cuts, chunks}
 use Rattle.spur_graph.specs.Cells.{Moved, Store, is_there}
-use Rattle.spur_graph.specs.Heaps.{heap_store, IsClear}
+use Rattle.spur_graph.specs.Heaps.{row_store, IsClear}
 use Rattle.heap_cells.specs.Settled.{IsNamed, IsSettled}
 
 -- the format of a free chunk: words
@@ -40,13 +40,13 @@ pub record IsRoom (words : List ℕ) (at room : ℕ) : Type 0 where
 pub record IsAlone (h : Store) (words : List ℕ) : Type 0 where
   pub named : IsNamed h
   pub resolved : (s t : ℕ) → h.cell s ≡ Moved t → is_there (h.cell t) ≡ true
-  pub settled : IsSettled h (heap_store words)
+  pub settled : IsSettled h (row_store words)
   pub cut : Cuts words 0 (length words) (chunks words)
   pub clear : All (λ (c : Chunk). IsClear (slice_index words c.start)) (chunks words)
 
 -- settled words with a room behind them
 pub record HasRoom (h : Store) (words new : List ℕ) (room : ℕ) : Type 0 where
-  pub settled : IsSettled h (heap_store new)
+  pub settled : IsSettled h (row_store new)
   pub cut : Cuts new 0 (length new) (chunks new)
   pub chunks_are : chunks new ≡ chunks words ++ room_chunks (length words) room
   pub clear : All (λ (c : Chunk). IsClear (slice_index new c.start)) (chunks new)

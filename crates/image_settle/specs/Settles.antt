@@ -1,15 +1,15 @@
 -- What settling starts from, and what its two walks make of each word.
 use Rattle.std.specs.Prelude.{ℕ, ◌≡◌, ◌≢◌, ◌+◌, ◌-◌, ◌^◌, ◌<◌, ◌≤◌, List, take, drop, length, slice_index, true, if◌then◌else◌, nat_eq, nat_lt, Some}
-use Rattle.object_header.specs.Field.{field_of}
 use Rattle.object_header.specs.Fields.{Fields, fields_of}
 use Rattle.object_header.specs.Head.{class_of}
 use Rattle.object_header.specs.declared.header.TheConstants.{FORWARDER_CLASS}
 use Rattle.heap_walk.specs.declared.starts.StartMap.{StartMap}
 use Rattle.heap_walk.specs.Starts.{has_start, covered}
 use Rattle.spur_graph.specs.Segments.{Segment, word_in}
-use Rattle.spur_graph.specs.Chunks.{Chunk, Cuts, chunks}
+use Rattle.object_header.specs.Chunks.{Chunk, Cuts, chunks}
 use Rattle.spur_graph.specs.Cells.{Body, Cell, Empty, Moved, There, Store, cell_from, start_named, pointer_count, first, is_start, is_moved, is_there, is_formed}
 use Rattle.spur_graph.specs.Ordinary.{body_at, is_ordinary}
+use Rattle.spur_graph.specs.Heaps.{HasNoUnusedBits}
 use Rattle.image_references.specs.References.{Leads}
 use Rattle.heap_cells.specs.Settled.{IsLoadable, IsNamed, word_of, settled_word, settled_root}
 use Rattle.spur_graph.specs.FileStores.{file_store}
@@ -57,11 +57,6 @@ pub record IsNext (h : Store) (words : List ℕ) (header start slots : ℕ) : Ty
 -- a header without mark, grey and remembered bit
 abbrev pub unmarked : Fields → Fields
 unmarked f = record f { marked = 0; grey = 0; remembered = 0 }
-
--- the two bits of a header that are in none of its fields are 0
-pub record HasNoUnusedBits (word : ℕ) : Type 0 where
-  pub low : field_of 22 1 word ≡ 0
-  pub high : field_of 54 1 word ≡ 0
 
 -- slot `i` of the object at a start
 abbrev pub settled_slot : Store → ℕ → Body → ℕ → ℕ → ℕ

@@ -3,14 +3,14 @@ ghost use Rattle.std.specs.Prelude.{◌≡◌, ◌≢◌, ◌≤◌, ◌<◌, �
 ghost use Rattle.spur_graph.specs.Segments.{word_in};
 ghost use Rattle.object_header.specs.Fields.{fields_of};
 ghost use Rattle.spur_graph.specs.Cells.{Store, first};
+ghost use Rattle.spur_graph.specs.Heaps.{HasNoUnusedBits};
 ghost use Rattle.heap_cells.specs.Settled.{settled_word, settled_root};
 ghost use Rattle.image_references.specs.References.{HasOrdinary};
-ghost use Rattle.image_settle.specs.Settles.{Follows, AreFirsts, IsLoose, IsNext, HasNoUnusedBits, unmarked, slot_in};
+ghost use Rattle.image_settle.specs.Settles.{Follows, AreFirsts, IsLoose, IsNext, unmarked, slot_in};
 
 use crate::word::{settled_root, settled_word};
-use heap_cells::Span;
 use heap_segments::AddressMap;
-use heap_walk::StartMap;
+use heap_walk::{Span, StartMap};
 use object_header::{FORWARDER_CLASS, FREE_CLASS, Header};
 use spur_graph::{FREE_LISTS, HIDDEN_ROOTS};
 

@@ -3,6 +3,7 @@ ghost use Rattle.std.specs.Prelude.{◌≡◌, ◌≢◌, ◌≤◌, ◌<◌, �
 ghost use Rattle.object_header.specs.Fields.{fields_of};
 ghost use Rattle.object_header.specs.Head.{count_of, overflow_slots_of};
 ghost use Rattle.spur_graph.specs.Cells.{Store};
+ghost use Rattle.spur_graph.specs.Heaps.{HasNoUnusedBits};
 ghost use Rattle.image_settle.specs.Rooms.{IsRoom, IsAlone, HasRoom, free_fields};
 
 use object_header::{CountField, FREE_CLASS, Header, OVERFLOW_COUNT, OverflowSlotsField};
@@ -17,7 +18,8 @@ const LONGEST_SHORT: usize = 255;
 /// The header of a free chunk with this count.
 fn free_header(count: u64) -> Header
     requires { count < 2 ^ 8 }
-    ensures { fields_of result.0 ≡ free_fields count }
+    ensures fields { fields_of result.0 ≡ free_fields count }
+    ensures unused { HasNoUnusedBits result.0 }
 {
     Header(0)
         .set_count(count)
@@ -34,10 +36,10 @@ fn overflow_word(slots: u64) -> u64
     CountField::set(OverflowSlotsField::set(0, slots), OVERFLOW_COUNT)
 }
 
-/// Writes the head words of a free chunk of `room` words at the end of the region.
+/// Writes the head words of a free chunk of `room` words.
 fn put_chunk(region: &mut Region, at: usize, room: usize)
     requires room { 2 ≤ room }
-    requires end { at + room ≡ length region.old }
+    requires end { at + room ≤ length region.old }
     requires small { length region.old ≤ 2 ^ 27 }
     ensures same_len { length region.new ≡ length region.old }
     ensures before { take at region.new ≡ take at region.old }
@@ -51,14 +53,15 @@ fn put_chunk(region: &mut Region, at: usize, room: usize)
     }
 }
 
-/// Makes the `room` words behind the first `at` a free chunk, where there are any. The first `at` words stay, and what stands in them.
+/// Makes the `room` words behind the first `at` a free chunk, where there are any. The first `at` words stay, and what stands
+/// in them; the words behind the room are none of it.
 pub fn put_room(region: &mut Region, at: usize, room: usize)
     requires room { room ≢ 1 }
-    requires end { at + room ≡ length region.old }
+    requires end { at + room ≤ length region.old }
     requires small { length region.old ≤ 2 ^ 27 }
     ensures same_len { length region.new ≡ length region.old }
     ensures before { take at region.new ≡ take at region.old }
-    ensures heap { (h : Store) → IsAlone h (take at region.old) → HasRoom h (take at region.old) region.new room }
+    ensures heap { (h : Store) → IsAlone h (take at region.old) → HasRoom h (take at region.old) (take (at + room) region.new) room }
 {
     if room != 0 {
         put_chunk(region, at, room);

@@ -4,18 +4,17 @@ ghost use Rattle.std.specs.List.{All, Contains};
 ghost use Rattle.object_header.specs.Head.{class_of};
 ghost use Rattle.object_header.specs.declared.header.TheConstants.{FORWARDER_CLASS};
 ghost use Rattle.spur_graph.specs.Segments.{word_in};
-ghost use Rattle.spur_graph.specs.Chunks.{Chunk, Cuts, chunks};
+ghost use Rattle.object_header.specs.Chunks.{Chunk, Cuts, chunks};
 ghost use Rattle.spur_graph.specs.Cells.{Store, start_named};
-ghost use Rattle.spur_graph.specs.Heaps.{heap_store, IsClear};
+ghost use Rattle.spur_graph.specs.Heaps.{row_store, IsClear};
 ghost use Rattle.heap_cells.specs.Settled.{IsSettled, word_of};
-ghost use Rattle.image_settle.specs.Settles.{IsReady, IsCleared, IsTurned, HasNoUnusedBits};
+ghost use Rattle.image_settle.specs.Settles.{IsReady, IsCleared, IsTurned};
 ghost use Rattle.spur_graph.specs.FileStores.{file_store};
 
 use crate::object::settle_chunk;
 use crate::word::word_of;
-use heap_cells::span_of;
 use heap_segments::AddressMap;
-use heap_walk::StartMap;
+use heap_walk::{StartMap, span_of};
 use object_header::{FORWARDER_CLASS, Header};
 
 /// Clears the headers and settles the slots of all chunks. The words of forwarders stay addresses.
@@ -87,11 +86,10 @@ pub fn settle(
 )
     requires { IsReady map.now starts.now ordinary.now firsts.now words.old }
     ensures same_len { length words.new ≡ length words.old }
-    ensures settled { IsSettled (file_store map.now words.old) (heap_store words.new) }
+    ensures settled { IsSettled (file_store map.now words.old) (row_store words.new) }
     ensures cut { Cuts words.new 0 (length words.new) (chunks words.new) }
     ensures chunks { chunks words.new ≡ chunks words.old }
     ensures clear { All (λ (c : Chunk). IsClear (slice_index words.new c.start)) (chunks words.new) }
-    ensures unused { All (λ (c : Chunk). HasNoUnusedBits (slice_index words.new c.start)) (chunks words.new) }
 {
     settle_chunks(words, map, starts, ordinary, firsts);
     turn_forwarders(words, map);

@@ -13,6 +13,10 @@
 //! chunk at the front of some words, or its first fault, so that a chunk it accepts lies whole
 //! within them.
 //!
+//! What a row of chunks is stands here too, since a chunk is known from its first word: when chunks
+//! cut a range of words, where each starts, and which words are its slots. A head that is read is
+//! that of the chunk of such a row.
+//!
 //! The layout is that of Spur's 64-bit memory, as the class comment of its memory manager and the
 //! image format have it; forwarders are those of "A Partial Read Barrier for Efficient Support of
 //! Live Object-Oriented Programming" (ISMM 2015).

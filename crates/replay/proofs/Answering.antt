@@ -1,11 +1,10 @@
 -- The answers to the lines of a script that is read piece by piece.
-use Rattle.std.proofs.Common.{◌≡◌, ◌≢◌, inl, inr, ℕ, ◌+◌, ◌<◌, ◌≤◌, List, [], ◌∷◌, ◌++◌, length, take, Option, Some, Ok, Err, Result, refl, sym, subst, ap, ◌∙◌, append_assoc, append-nil, length-take, arith, false}
+use Rattle.std.proofs.Common.{◌≡◌, ◌≢◌, inl, inr, ℕ, ◌<◌, ◌≤◌, List, [], ◌∷◌, ◌++◌, length, take, Option, Some, Ok, Err, Result, refl, sym, subst, ap, ◌∙◌, append_assoc, append-nil, length-take, arith, false}
 use Rattle.std.specs.Prelude.{◌==◌}
 use Rattle.std.specs.Result.{OnOk, OnErr}
 use Rattle.std.proofs.lemmas.Bool.Decides.{nat_tests}
 use Rattle.std.proofs.lemmas.Bool.{cases_lt}
 use Rattle.std.proofs.lemmas.List.{take_all, take-append-le}
-use Rattle.std.proofs.Math.Seq.{take-append-add}
 use Rattle.std.proofs.lemmas.List.Concat.{flat_map-append}
 use Rattle.spur_io.specs.Store.{Puts}
 use Rattle.spur_io.specs.declared.sink.SinkFault.{SinkFault}
@@ -16,8 +15,8 @@ use Rattle.spur_graph.specs.Step.{Step, Run}
 use Rattle.spur_graph.specs.Lines.{lines_of, ended_lines_of, open_line_of, has_line_feed}
 use Rattle.spur_graph.specs.Text.{answer_line}
 use Rattle.replay.specs.Runs.{answers_text}
-use Rattle.replay.specs.Sessions.{StandsFor}
-use Rattle.replay.specs.Answered.{kept_of, AnswersLine, Answered, AnsweredPart, AnsweredAll, AnswersBehind, AnswersPiece, CutsPiece, AnswersEnd, CutsEnd}
+use Rattle.replay.specs.Sessions.{SessionView, IsAt, StandsFor}
+use Rattle.replay.specs.Answered.{kept_of, AnswersLine, LineAnswered, Answered, AnsweredBy, AnsweredPart, AnsweredAll, AnswersBehind, AnswersPiece, CutsPiece, AnswersEnd, CutsEnd}
 use Rattle.replay.proofs.ScriptLines.{open_more, ended_same, ended_more, open_none, ended_parts, lines_parts, all_ended, one_open}
 
 -- one run after another
@@ -60,13 +59,6 @@ texts_more before xs a =
     append_assoc before (answers_text xs) (answer_line a)
     ∙ ap (λ t. before ++ t) (ap (λ t. answers_text xs ++ t) (sym (append-nil (answer_line a))) ∙ sym (flat_map-append answer_line xs (a ∷ [])))
 
--- a part of the next answer is a part of all
-texts_part : (before : List ℕ) (xs : List Answer) (a : Answer) (k : ℕ) → (before ++ answers_text xs) ++ take k (answer_line a) ≡ before ++ take (length (answers_text xs) + k) (answers_text (xs ++ a ∷ []))
-texts_part before xs a k =
-    let all : answers_text (xs ++ a ∷ []) ≡ answers_text xs ++ answer_line a = flat_map-append answer_line xs (a ∷ []) ∙ ap (λ t. answers_text xs ++ t) (append-nil (answer_line a)) in
-    append_assoc before (answers_text xs) (take k (answer_line a))
-    ∙ ap (λ t. before ++ t) (sym (take-append-add (answers_text xs) (answer_line a) k) ∙ ap (take (length (answers_text xs) + k)) (sym all))
-
 -- an answer more
 run_more : (first now next : State) (lines : List Text) (line : Text) (xs : List Answer) (a : Answer) → Run first lines xs now → Step now line a next → Run first (lines ++ line ∷ []) (xs ++ a ∷ []) next
 run_more first now next lines line xs a run step = runs_join first now next lines (line ∷ []) xs (a ∷ []) run (next, step, refl)
@@ -86,72 +78,85 @@ one_answered first now next text line kept before so_far after x none so this =
     }
 
 -- a put that is refused
-pub one_cut : (first now next : State) (files : Files) (text line : Text) (lines others : List Text) (kept before : List ℕ) (so_far after : Option (List ℕ)) (e : SinkFault) → next.files ≡ files
-    → lines ≡ ended_lines_of text ++ (line ∷ others) → Answered first now text kept before so_far → AnswersLine now next line so_far after (Err e) → AnsweredPart first files lines before after
-one_cut first now next files text line lines others kept before so_far after e same are so this =
-    let P : Option (List ℕ) → Type 0 = λ o. Puts (answer_line this.answer) o after (Err e) in
-    let put : (k : ℕ) × (after ≡ Some ((before ++ answers_text so.answers) ++ take k (answer_line this.answer))) = subst P so.put this.put in
+pub one_cut : (first now : State) (session : SessionView) (files : Files) (text line : Text) (lines others : List Text) (kept before : List ℕ) (so_far after : Option (List ℕ)) (e : SinkFault) → lines ≡ ended_lines_of text ++ (line ∷ others)
+    → Answered first now text kept before so_far → LineAnswered session files now line so_far after (Err e) → AnsweredPart first session files lines before after
+one_cut first now session files text line lines others kept before so_far after e are so this =
+    let P : Option (List ℕ) → Type 0 = λ o. Puts (answer_line this.answers.answer) o after (Err e) in
+    let put : (k : ℕ) × (after ≡ Some ((before ++ answers_text so.answers) ++ take k (answer_line this.answers.answer))) = subst P so.put this.answers.put in
     record {
       done = ended_lines_of text ++ line ∷ [];
       others = others;
       first_lines = append_assoc (ended_lines_of text) (line ∷ []) others ∙ sym are;
-      answers = so.answers ++ this.answer ∷ [];
-      last = next;
-      run = run_more first now next (ended_lines_of text) line so.answers this.answer so.run this.step;
-      same_files = same;
-      size = length (answers_text so.answers) + put.0;
-      put = put.1 ∙ ap (λ bytes. Some bytes) (texts_part before so.answers this.answer put.0);
+      answers = so.answers ++ this.answers.answer ∷ [];
+      last = this.now;
+      run = run_more first now this.now (ended_lines_of text) line so.answers this.answers.answer so.run this.answers.step;
+      at = this.at;
+      put = record {
+        whole = so.answers;
+        last = this.answers.answer ∷ [];
+        are = refl;
+        one = omega arith;
+        size = put.0;
+        put = put.1 ∙ ap (λ bytes. Some bytes) (append_assoc before (answers_text so.answers) (take put.0 (answer_line this.answers.answer))
+            ∙ ap (λ t. before ++ (answers_text so.answers ++ take put.0 t)) (sym (append-nil (answer_line this.answers.answer))));
+      };
     }
 
 -- the lines of a piece were answered up to the rest of it
-pub record Passed (old now : Files → Text → State) (was kept piece rest : List ℕ) (so_far after : Option (List ℕ)) : Type 0 where
+pub record Passed (old now : SessionView) (was kept piece rest : List ℕ) (so_far after : Option (List ℕ)) : Type 0 where
   pub used : List ℕ
   pub is : piece ≡ used ++ rest
-  pub goes : (first : State) (files : Files) (script text : Text) (before : List ℕ) → Answered first (old files script) text was before so_far → Answered first (now files script) (text ++ used) kept before after
+  pub goes : (files : Files) (first : State) (text : Text) (before : List ℕ) → AnsweredBy old files first text was before so_far → AnsweredBy now files first (text ++ used) kept before after
 
-text_nil : (first now : State) (text : Text) (kept before : List ℕ) (so_far : Option (List ℕ)) → Answered first now text kept before so_far → Answered first now (text ++ []) kept before so_far
-text_nil first now text kept before so_far so = let P : Text → Type 0 = λ t. Answered first now t kept before so_far in subst P (sym (append-nil text)) so
+text_nil : (session : SessionView) (files : Files) (first : State) (text : Text) (kept before : List ℕ) (so_far : Option (List ℕ)) → AnsweredBy session files first text kept before so_far → AnsweredBy session files first (text ++ []) kept before so_far
+text_nil session files first text kept before so_far so = let P : Text → Type 0 = λ t. AnsweredBy session files first t kept before so_far in subst P (sym (append-nil text)) so
 
 -- no line of the piece yet
-pub none_passed : (old : Files → Text → State) (was piece : List ℕ) (so_far : Option (List ℕ)) → Passed old old was was piece piece so_far so_far
-none_passed old was piece so_far = record { used = []; is = refl; goes = λ first files script text before so. text_nil first (old files script) text was before so_far so }
+pub none_passed : (session : SessionView) (was piece : List ℕ) (so_far : Option (List ℕ)) → Passed session session was was piece piece so_far so_far
+none_passed session was piece so_far = record { used = []; is = refl; goes = λ files first text before so. text_nil session files first text was before so_far so }
 
 -- a line more was answered
-pub line_passed : (old now next : Files → Text → State) (was kept kept' piece rest line behind : List ℕ) (start so_far after : Option (List ℕ)) (x : Unit {0}) → rest ≡ line ++ 10 ∷ behind → has_line_feed line ≡ false → kept' ≡ []
-    → Passed old now was kept piece rest start so_far → AnswersBehind now next kept line so_far after (Ok x) → Passed old next was kept' piece behind start after
+pub line_passed : (old now next : SessionView) (was kept kept' piece rest line behind : List ℕ) (start so_far after : Option (List ℕ)) (x : Unit {0}) → rest ≡ line ++ 10 ∷ behind → has_line_feed line ≡ false → kept' ≡ []
+    → Passed old now was kept piece rest start so_far → ((files : Files) → AnswersBehind now files next files kept line so_far after (Ok x)) → Passed old next was kept' piece behind start after
 line_passed old now next was kept kept' piece rest line behind start so_far after x cut none empty passed answers =
     record {
       used = passed.used ++ (line ++ 10 ∷ []);
       is = passed.is ∙ ap (λ r. passed.used ++ r) (cut ∙ sym (append_assoc line (10 ∷ []) behind)) ∙ sym (append_assoc passed.used (line ++ 10 ∷ []) behind);
-      goes = λ first files script text before so.
-          let here = passed.goes first files script text before so in
-          let next_so = one_answered first (now files script) (next files script) (text ++ passed.used) line kept before so_far after x none here (answers files script (open_line_of (text ++ passed.used)) here.keeps) in
-          let P : Text → List ℕ → Type 0 = λ t k. Answered first (next files script) t k before after in
+      goes = λ files first text before so.
+          let front : Text = text ++ passed.used in
+          let here : AnsweredBy now files first front kept before so_far = passed.goes files first text before so in
+          let this : LineAnswered next files here.now (open_line_of front ++ line) so_far after (Ok x) = answers files here.now (open_line_of front) here.at here.answered.keeps in
+          let next_so : Answered first this.now (front ++ (line ++ 10 ∷ [])) [] before after = one_answered first here.now this.now front line kept before so_far after x none here.answered this.answers in
+          let P : Text → List ℕ → Type 0 = λ t k. Answered first this.now t k before after in
           let there : P (text ++ (passed.used ++ (line ++ 10 ∷ []))) [] = subst (λ (t : Text). P t []) (append_assoc text passed.used (line ++ 10 ∷ [])) next_so in
-          subst (P (text ++ (passed.used ++ (line ++ 10 ∷ [])))) (sym empty) there;
+          record { now = this.now; at = this.at; answered = subst (P (text ++ (passed.used ++ (line ++ 10 ∷ [])))) (sym empty) there };
     }
 
 -- the rest of the piece has no line feed
-pub all_passed : (old now : Files → Text → State) (was kept kept' piece rest : List ℕ) (start so_far : Option (List ℕ)) → has_line_feed rest ≡ false → kept' ≡ take 1025 (kept ++ rest) → Passed old now was kept piece rest start so_far
-    → AnswersPiece old now was kept' piece start so_far
-all_passed old now was kept kept' piece rest start so_far none is passed = λ first files script text before so.
-    let here = passed.goes first files script text before so in
+pub all_passed : (old now : SessionView) (was kept kept' piece rest : List ℕ) (start so_far : Option (List ℕ)) → has_line_feed rest ≡ false → kept' ≡ take 1025 (kept ++ rest) → Passed old now was kept piece rest start so_far
+    → (files : Files) → AnswersPiece old files now files was kept' piece start so_far
+all_passed old now was kept kept' piece rest start so_far none is passed files = λ first text before so.
+    let by : AnsweredBy now files first (text ++ passed.used) kept before so_far = passed.goes files first text before so in
+    let here : Answered first by.now (text ++ passed.used) kept before so_far = by.answered in
     let whole : text ++ piece ≡ (text ++ passed.used) ++ rest = ap (λ p. text ++ p) passed.is ∙ sym (append_assoc text passed.used rest) in
-    let R : List Text → Type 0 = λ lines. Run first lines here.answers (now files script) in
+    let R : List Text → Type 0 = λ lines. Run first lines here.answers by.now in
     record {
-      keeps = is ∙ kept_more kept rest (open_line_of (text ++ passed.used)) here.keeps ∙ sym (ap kept_of (ap open_line_of whole ∙ open_more (text ++ passed.used) rest none));
-      answers = here.answers;
-      run = subst R (sym (ap ended_lines_of whole ∙ ended_same (text ++ passed.used) rest none)) here.run;
-      put = here.put;
+      now = by.now;
+      at = by.at;
+      answered = record {
+        keeps = is ∙ kept_more kept rest (open_line_of (text ++ passed.used)) here.keeps ∙ sym (ap kept_of (ap open_line_of whole ∙ open_more (text ++ passed.used) rest none));
+        answers = here.answers;
+        run = subst R (sym (ap ended_lines_of whole ∙ ended_same (text ++ passed.used) rest none)) here.run;
+        put = here.put;
+      };
     }
 
 -- a put was refused in the piece
-pub part_passed : (old now next : Files → Text → State) (was kept piece rest line behind : List ℕ) (start so_far after : Option (List ℕ)) (e : SinkFault) → ((files : Files) (script : Text) → (next files script).files ≡ files)
-    → rest ≡ line ++ 10 ∷ behind → has_line_feed line ≡ false → Passed old now was kept piece rest start so_far → AnswersBehind now next kept line so_far after (Err e)
-    → CutsPiece old was piece start after
-part_passed old now next was kept piece rest line behind start so_far after e same cut none passed answers = λ first files script text before so.
-    let here = passed.goes first files script text before so in
-    let front = text ++ passed.used in
+pub part_passed : (old now next : SessionView) (was kept piece rest line behind : List ℕ) (start so_far after : Option (List ℕ)) (e : SinkFault) → rest ≡ line ++ 10 ∷ behind → has_line_feed line ≡ false
+    → Passed old now was kept piece rest start so_far → ((files : Files) → AnswersBehind now files next files kept line so_far after (Err e)) → (files : Files) → CutsPiece old files next files was piece start after
+part_passed old now next was kept piece rest line behind start so_far after e cut none passed answers files = λ first text before so.
+    let front : Text = text ++ passed.used in
+    let here : AnsweredBy now files first front kept before so_far = passed.goes files first text before so in
     let whole : text ++ piece ≡ (front ++ (line ++ 10 ∷ [])) ++ behind =
     ap (λ p. text ++ p) (passed.is ∙ ap (λ r. passed.used ++ r) (cut ∙ sym (append_assoc line (10 ∷ []) behind))) ∙ sym (append_assoc text passed.used ((line ++ 10 ∷ []) ++ behind))
     ∙ sym (append_assoc front (line ++ 10 ∷ []) behind) in
@@ -159,38 +164,41 @@ part_passed old now next was kept piece rest line behind start so_far after e sa
     ap ended_lines_of whole ∙ ended_parts (front ++ (line ++ 10 ∷ [])) behind
     ∙ ap (λ ls. ls ++ ended_lines_of (open_line_of (front ++ (line ++ 10 ∷ [])) ++ behind)) (ended_more front line none)
     ∙ append_assoc (ended_lines_of front) ((open_line_of front ++ line) ∷ []) (ended_lines_of (open_line_of (front ++ (line ++ 10 ∷ [])) ++ behind)) in
-    one_cut first (now files script) (next files script) files front (open_line_of front ++ line) (ended_lines_of (text ++ piece)) (ended_lines_of (open_line_of (front ++ (line ++ 10 ∷ [])) ++ behind)) kept before so_far after e
-    (same files script) lines here (answers files script (open_line_of front) here.keeps)
+    one_cut first here.now next files front (open_line_of front ++ line) (ended_lines_of (text ++ piece)) (ended_lines_of (open_line_of (front ++ (line ++ 10 ∷ [])) ++ behind)) kept before so_far after e lines here.answered
+    (answers files here.now (open_line_of front) here.at here.answered.keeps)
 
 -- at the script's end no line is open
-pub ended_all : (first last : State) (files : Files) (text : Text) (kept before : List ℕ) (so_far : Option (List ℕ)) → last.files ≡ files → length kept ≡ 0 → Answered first last text kept before so_far → AnsweredAll first last files (lines_of text) before so_far
-ended_all first last files text kept before so_far same none so =
-    let R : List Text → Type 0 = λ lines. Run first lines so.answers last in
-    record { answers = so.answers; run = subst R (sym (all_ended text (kept_none kept (open_line_of text) so.keeps none))) so.run; same_files = same; put = so.put }
+pub ended_all : (session : SessionView) (files : Files) (first : State) (text : Text) (kept before : List ℕ) (so_far : Option (List ℕ)) → length kept ≡ 0 → AnsweredBy session files first text kept before so_far → AnsweredAll first session files (lines_of text) before so_far
+ended_all session files first text kept before so_far none by =
+    let so : Answered first by.now text kept before so_far = by.answered in
+    let R : List Text → Type 0 = λ lines. Run first lines so.answers by.now in
+    record { answers = so.answers; last = by.now; run = subst R (sym (all_ended text (kept_none kept (open_line_of text) so.keeps none))) so.run; at = by.at; put = so.put }
 
 -- the open line at the script's end is answered
-pub open_answered : (first now last : State) (files : Files) (text : Text) (kept before : List ℕ) (so_far after : Option (List ℕ)) (x : Unit {0}) → last.files ≡ files → 0 < length kept → Answered first now text kept before so_far
-    → AnswersLine now last (open_line_of text) so_far after (Ok x) → AnsweredAll first last files (lines_of text) before after
-open_answered first now last files text kept before so_far after x same some so this =
-    let P : Option (List ℕ) → Type 0 = λ o. Puts (answer_line this.answer) o after (Ok x) in
-    let put : after ≡ Some ((before ++ answers_text so.answers) ++ answer_line this.answer) = subst P so.put this.put in
-    let R : List Text → Type 0 = λ lines. Run first lines (so.answers ++ this.answer ∷ []) last in
+pub open_answered : (first now : State) (session : SessionView) (files : Files) (text : Text) (kept before : List ℕ) (so_far after : Option (List ℕ)) (x : Unit {0}) → 0 < length kept → Answered first now text kept before so_far
+    → LineAnswered session files now (open_line_of text) so_far after (Ok x) → AnsweredAll first session files (lines_of text) before after
+open_answered first now session files text kept before so_far after x some so this =
+    let answer : Answer = this.answers.answer in
+    let P : Option (List ℕ) → Type 0 = λ o. Puts (answer_line answer) o after (Ok x) in
+    let put : after ≡ Some ((before ++ answers_text so.answers) ++ answer_line answer) = subst P so.put this.answers.put in
+    let R : List Text → Type 0 = λ lines. Run first lines (so.answers ++ answer ∷ []) this.now in
     record {
-      answers = so.answers ++ this.answer ∷ [];
-      run = subst R (sym (one_open text (kept_some kept (open_line_of text) so.keeps some))) (run_more first now last (ended_lines_of text) (open_line_of text) so.answers this.answer so.run this.step);
-      same_files = same;
-      put = put ∙ ap (λ bytes. Some bytes) (texts_more before so.answers this.answer);
+      answers = so.answers ++ answer ∷ [];
+      last = this.now;
+      run = subst R (sym (one_open text (kept_some kept (open_line_of text) so.keeps some))) (run_more first now this.now (ended_lines_of text) (open_line_of text) so.answers answer so.run this.answers.step);
+      at = this.at;
+      put = put ∙ ap (λ bytes. Some bytes) (texts_more before so.answers answer);
     }
 
 -- the same where its put was refused
-pub open_cut : (first now last : State) (files : Files) (text : Text) (kept before : List ℕ) (so_far after : Option (List ℕ)) (e : SinkFault) → last.files ≡ files → 0 < length kept → Answered first now text kept before so_far
-    → AnswersLine now last (open_line_of text) so_far after (Err e) → AnsweredPart first files (lines_of text) before after
-open_cut first now last files text kept before so_far after e same some so this =
-    one_cut first now last files text (open_line_of text) (lines_of text) [] kept before so_far after e same (one_open text (kept_some kept (open_line_of text) so.keeps some)) so this
+pub open_cut : (first now : State) (session : SessionView) (files : Files) (text : Text) (kept before : List ℕ) (so_far after : Option (List ℕ)) (e : SinkFault) → 0 < length kept → Answered first now text kept before so_far
+    → LineAnswered session files now (open_line_of text) so_far after (Err e) → AnsweredPart first session files (lines_of text) before after
+open_cut first now session files text kept before so_far after e some so this =
+    one_cut first now session files text (open_line_of text) (lines_of text) [] kept before so_far after e (one_open text (kept_some kept (open_line_of text) so.keeps some)) so this
 
 -- the first lines of a front are first lines of the whole
-pub part_of : (first : State) (files : Files) (front back : Text) (before : List ℕ) (after : Option (List ℕ)) → AnsweredPart first files (ended_lines_of front) before after → AnsweredPart first files (lines_of (front ++ back)) before after
-part_of first files front back before after part =
+pub part_of : (first : State) (session : SessionView) (files : Files) (front back : Text) (before : List ℕ) (after : Option (List ℕ)) → AnsweredPart first session files (ended_lines_of front) before after → AnsweredPart first session files (lines_of (front ++ back)) before after
+part_of first session files front back before after part =
     record {
       done = part.done;
       others = part.others ++ lines_of (open_line_of front ++ back);
@@ -198,46 +206,52 @@ part_of first files front back before after part =
       answers = part.answers;
       last = part.last;
       run = part.run;
-      same_files = part.same_files;
-      size = part.size;
+      at = part.at;
       put = part.put;
     }
 
 -- all answers are a part of them
-pub whole_part : (first last : State) (files : Files) (text : Text) (kept before : List ℕ) (so_far : Option (List ℕ)) → last.files ≡ files → Answered first last text kept before so_far → AnsweredPart first files (ended_lines_of text) before so_far
-whole_part first last files text kept before so_far same so =
+pub whole_part : (session : SessionView) (files : Files) (first : State) (text : Text) (kept before : List ℕ) (so_far : Option (List ℕ)) → AnsweredBy session files first text kept before so_far → AnsweredPart first session files (ended_lines_of text) before so_far
+whole_part session files first text kept before so_far by =
+    let so : Answered first by.now text kept before so_far = by.answered in
     record {
       done = ended_lines_of text;
       others = [];
       first_lines = append-nil (ended_lines_of text);
       answers = so.answers;
-      last = last;
+      last = by.now;
       run = so.run;
-      same_files = same;
-      size = length (answers_text so.answers);
-      put = so.put ∙ ap (λ t. Some (before ++ t)) (sym (take_all (length (answers_text so.answers)) (answers_text so.answers) (omega arith)));
+      at = by.at;
+      put = record {
+        whole = so.answers;
+        last = [];
+        are = sym (append-nil so.answers);
+        one = omega arith;
+        size = 0;
+        put = so.put ∙ ap (λ t. Some (before ++ t)) (sym (append-nil (answers_text so.answers)));
+      };
     }
 
 -- all answers to the lines that are ended
-pub whole_ended : (first last : State) (files : Files) (text : Text) (kept before : List ℕ) (so_far : Option (List ℕ)) → last.files ≡ files → Answered first last text kept before so_far → AnsweredAll first last files (ended_lines_of text) before so_far
-whole_ended first last files text kept before so_far same so = record { answers = so.answers; run = so.run; same_files = same; put = so.put }
+pub whole_ended : (session : SessionView) (files : Files) (first : State) (text : Text) (kept before : List ℕ) (so_far : Option (List ℕ)) → AnsweredBy session files first text kept before so_far → AnsweredAll first session files (ended_lines_of text) before so_far
+whole_ended session files first text kept before so_far by = record { answers = by.answered.answers; last = by.now; run = by.answered.run; at = by.at; put = by.answered.put }
 
 -- a length that is not 0
 pub some_length : (n : ℕ) → (n == 0) ≡ false → 0 < n
 some_length n is = grind (arith, nat_tests)
 
+-- from each state in which the session is, the line of which these bytes are kept is answered
+abbrev pub AnswersOpen : SessionView → SessionView → List ℕ → Option (List ℕ) → Option (List ℕ) → Result (Unit {0}) SinkFault → Type 0
+AnswersOpen now last kept so_far after did = (files : Files) (s : State) (text : Text) → IsAt now files s → kept ≡ kept_of text → LineAnswered last files s text so_far after did
+
 -- the last line, by how its put went
-pub last_answered : (did : Result (Unit {0}) SinkFault) (now last : Files → Text → State) (kept : List ℕ) (so_far after : Option (List ℕ)) → ((files : Files) (script : Text) → (last files script).files ≡ files) → 0 < length kept
-    → ((files : Files) (script text : Text) → kept ≡ kept_of text → AnswersLine (now files script) (last files script) text so_far after did)
-    → OnOk did (AnswersEnd now last kept so_far after)
-last_answered (Ok x) now last kept so_far after same some answers = λ first files script text before so.
-    open_answered first (now files script) (last files script) files text kept before so_far after x (same files script) some so (answers files script (open_line_of text) so.keeps)
-last_answered (Err e) now last kept so_far after same some answers = tt
+pub last_answered : (did : Result (Unit {0}) SinkFault) (now last : SessionView) (kept : List ℕ) (so_far after : Option (List ℕ)) → 0 < length kept → AnswersOpen now last kept so_far after did → OnOk did ((files : Files) → AnswersEnd now files last files kept so_far after)
+last_answered (Ok x) now last kept so_far after some answers = λ files first text before by.
+    open_answered first by.now last files text kept before so_far after x some by.answered (answers files by.now (open_line_of text) by.at by.answered.keeps)
+last_answered (Err e) now last kept so_far after some answers = tt
 
 -- the same where its put was refused
-pub last_cut : (did : Result (Unit {0}) SinkFault) (now last : Files → Text → State) (kept : List ℕ) (so_far after : Option (List ℕ)) → ((files : Files) (script : Text) → (last files script).files ≡ files) → 0 < length kept
-    → ((files : Files) (script text : Text) → kept ≡ kept_of text → AnswersLine (now files script) (last files script) text so_far after did)
-    → OnErr did (CutsEnd now kept so_far after)
-last_cut (Ok x) now last kept so_far after same some answers = tt
-last_cut (Err e) now last kept so_far after same some answers = λ first files script text before so.
-    open_cut first (now files script) (last files script) files text kept before so_far after e (same files script) some so (answers files script (open_line_of text) so.keeps)
+pub last_cut : (did : Result (Unit {0}) SinkFault) (now last : SessionView) (kept : List ℕ) (so_far after : Option (List ℕ)) → 0 < length kept → AnswersOpen now last kept so_far after did → OnErr did ((files : Files) → CutsEnd now files last files kept so_far after)
+last_cut (Ok x) now last kept so_far after some answers = tt
+last_cut (Err e) now last kept so_far after some answers = λ files first text before by.
+    open_cut first by.now last files text kept before so_far after e some by.answered (answers files by.now (open_line_of text) by.at by.answered.keeps)

@@ -11,19 +11,21 @@ use Rattle.spur_graph.specs.declared.answer.Value.TheVariants.{Ref}
 use Rattle.spur_graph.specs.declared.answer.Refusal.{Refusal}
 use Rattle.spur_graph.specs.declared.answer.Refusal.TheVariants as r
 use Rattle.spur_graph.specs.Graph.{node, blank, held, bind, unbind}
-use Rattle.spur_graph.specs.Chunks.{Chunk, chunks}
+use Rattle.object_header.specs.Chunks.{Chunk}
 use Rattle.spur_graph.specs.Cells.{Store, first, is_there, cell_in, read_cell}
 use Rattle.spur_graph.specs.Ordinary.{body_at, is_ordinary, is_internal, ordinary_starts}
 use Rattle.spur_graph.specs.CellGraph.{nodes_of}
 use Rattle.spur_graph.specs.CellGraph as cells
 use Rattle.spur_graph.specs.Refusals.{test, unknown, handles}
-use Rattle.spur_graph.specs.Heaps.{View, IsWhole, heap_graph, heap_to, own_name}
+use Rattle.spur_graph.specs.Heaps.{View, IsWhole, chunks_of, heap_graph, heap_to, own_name}
 use Rattle.heap_cells.specs.Rows.{starts_of}
 use Rattle.heap_cells.proofs.Members.{In, listed}
 use Rattle.heap_cells.proofs.Starts.{starts-rise}
+use Rattle.spur_heap.proofs.Orders.{order}
+use Rattle.spur_heap.proofs.Puts.{whole_sound}
 use Rattle.spur_heap.specs.Views.{IsOrdinary, store, node_in}
 use Rattle.replay.specs.Sessions.{graph_of, room_of, value_in}
-use Rattle.replay.specs.Commands.{Becomes, node_of}
+use Rattle.replay.specs.Commands.{Becomes, Keeps, node_of}
 use Rattle.handle_table.proofs.Bound.{remove-absent}
 use Rattle.heap_cells.proofs.HandleValues.{get-handle_values}
 use Rattle.replay.proofs.Held.{len-handle_values, handle_values-insert, handle_values-remove}
@@ -54,6 +56,10 @@ unfolding graph_of room_of
 handle_dropped v new k h is =
     let dropped : graph_of (record v { handles = remove v.handles (k, h) }) ≡ unbind (graph_of v) k h = λ i. record (heap_graph v) { handles = handle_values-remove (value_in v) v.handles (k, h) i } in
     (ap graph_of is ∙ dropped, ap room_of is)
+
+-- only the handles differ
+pub handles_keep : (v new : View) (k : ℕ) (h : List ℕ) (word : ℕ) → new ≡ record v { handles = insert v.handles (k, h) word } → Keeps v new
+handles_keep v new k h word is = record { carried = ap (λ (u : View). u.carried) is; limits = ap (λ (u : View). u.limits) is; phase = ap (λ (u : View). u.phase) is }
 
 pub handle_kept : (v new : View) (k : ℕ) (h : List ℕ) → get v.handles (k, h) ≡ None → new ≡ record v { handles = remove v.handles (k, h) } → new ≡ v
 handle_kept v new k h none is = is ∙ (λ i. record v { handles = sym (remove-absent v.handles (k, h) none) i })
@@ -118,7 +124,7 @@ pub names_fresh : (v : View) → IsWhole v → (a : ℕ) → (graph_of v).next �
 unfolding graph_of nodes_of ordinary_starts
 names_fresh v w a past =
     let h : Store = store v in
-    let below = (starts-rise v.words (length v.words) (chunks v.words) w.cut).below in
+    let below = (starts-rise v.words (length v.words) (chunks_of v) (order v (whole_sound v w))).below in
     get-from_entries nat_cmp_total (map (λ s. (s, cells.node_of own_name h (body_at h s))) (ordinary_starts h)) a
     ∙ find-absent (λ s. cells.node_of own_name h (body_at h s)) (ordinary_starts h) a (λ m.
     let among = listed h.starts a (filter_in (is_ordinary h) h.starts a m).0 in
@@ -130,7 +136,7 @@ pub node_there : (v : View) (s : ℕ) → IsOrdinary v s → node (graph_of v) s
 unfolding graph_of nodes_of ordinary_starts
 node_there v s there =
     let h : Store = store v in
-    let inside : In h.starts s = stands_in heap_to v.words (chunks v.words) s (and_parts (is_there (h.cell s)) (not (is_internal h s)) there).0 in
+    let inside : In h.starts s = stands_in heap_to v.words (chunks_of v) s (and_parts (is_there (h.cell s)) (not (is_internal h s)) there).0 in
     ap (λ o. unwrap_or o blank)
     (get-from_entries nat_cmp_total (map (λ t. (t, cells.node_of own_name h (body_at h t))) (ordinary_starts h)) s
     ∙ find-listed (λ t. cells.node_of own_name h (body_at h t)) (ordinary_starts h) s (in_filter (is_ordinary h) h.starts s inside there))

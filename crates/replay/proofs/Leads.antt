@@ -63,7 +63,7 @@ names_start v word followed start l is same =
 
 -- the value of the word of one of the first three chunks
 pub root_value : (v : View) (w : IsWhole v) (j word : ℕ) → j < 3 → word ≡ word_of (first (store v) j) → value_in v word ≡ Ref (first (store v) j)
-root_value v w j word low is = ap (value_in v) is ∙ own_value v.words (first (store v) j) (outer_ordinary v.words (whole_sound v w) j low)
+root_value v w j word low is = ap (value_in v) is ∙ own_value v (first (store v) j) (outer_ordinary v (whole_sound v w) j low)
 
 pub root_start : (v : View) (j word start : ℕ) → word ≡ word_of (first (store v) j) → start ≡ word / 8 → start ≡ first (store v) j
 root_start v j word start is same = omega (arith, is, same)
@@ -88,18 +88,18 @@ module _ (v : View) (w : IsWhole v) (index : ℕ) (low : index < class_limit) wh
           ∙ find-range (has_class (store v)) (λ j. read own_name (store v) (entry (store v) j)) n index less
 
   nil_value : value_in v (word_of (first (store v) 0)) ≡ Ref (first (store v) 0)
-  nil_value = own_value v.words (first (store v) 0) (outer_ordinary v.words (whole_sound v w) 0 (omega arith))
+  nil_value = own_value v (first (store v) 0) (outer_ordinary v (whole_sound v w) 0 (omega arith))
 
   entry_good : has_page (store v) index ≡ true → IsGood v (entry (store v) index)
-  entry_good on = (an_entry v.words (whole_sound v w) index low (λ e. false≢true (sym (no_page v.words (whole_sound v w) index e) ∙ on))).good
+  entry_good on = (an_entry v (whole_sound v w) index low (λ e. false≢true (sym (no_page v (whole_sound v w) index e) ∙ on))).good
 
   settled_value : has_page (store v) index ≡ true → value_in v (settled_word (store v) (entry (store v) index)) ≡ value_in v (entry (store v) index)
   settled_value on =
       let e : ℕ = entry (store v) index in
       let good = entry_good on in
       elim (cases_eq (e % 8) 0) [
-        | inl z ↦ let f = leads v.words (whole_sound v w) e good z in ap (value_in v) (sym f.followed) ∙ f.value
-        | inr n ↦ let f = stays v.words (whole_sound v w) e good n in ap (value_in v) (sym f.followed) ∙ f.value
+        | inl z ↦ let f = leads v (whole_sound v w) e good z in ap (value_in v) (sym f.followed) ∙ f.value
+        | inr n ↦ let f = stays v (whole_sound v w) e good n in ap (value_in v) (sym f.followed) ∙ f.value
       ]
 
   -- an entry that leads to nil reads as nil

@@ -8,7 +8,8 @@ use Rattle.spur_graph.specs.State.{State, Files}
 use Rattle.spur_graph.specs.Step.{Step, Run, longest_line}
 use Rattle.spur_graph.specs.Lines.{lines_of, ended_lines_of, open_line_of}
 use Rattle.spur_graph.specs.Text.{answer_line}
-use Rattle.replay.specs.Runs.{answers_text, most_script_bytes}
+use Rattle.replay.specs.Sessions.{SessionView, IsAt, StandsFor}
+use Rattle.replay.specs.Runs.{answers_text, PutsFront, most_script_bytes}
 use Rattle.replay.specs.declared.runs.Stop.{Stop}
 use Rattle.replay.specs.declared.runs.Stop.TheVariants as stop
 
@@ -29,52 +30,65 @@ pub record Answered (first now : State) (text : Text) (kept before : List ℕ) (
   pub run : Run first (ended_lines_of text) answers now
   pub put : so_far ≡ Some (before ++ answers_text answers)
 
--- some first lines were answered, and a part of the texts of their answers was put
-pub record AnsweredPart (first : State) (files : Files) (lines : List Text) (before : List ℕ) (after : Option (List ℕ)) : Type 0 where
+-- a line was answered, and led to a state in which the session is, over these files
+pub record LineAnswered (session : SessionView) (files : Files) (s : State) (line : Text) (before after : Option (List ℕ)) (did : Result (Unit {0}) SinkFault) : Type 0 where
+  pub now : State
+  pub at : IsAt session files now
+  pub answers : AnswersLine s now line before after did
+
+-- what was answered of a script so far has led to a state in which the session is, over these files
+pub record AnsweredBy (session : SessionView) (files : Files) (first : State) (text : Text) (kept before : List ℕ) (so_far : Option (List ℕ)) : Type 0 where
+  pub now : State
+  pub at : IsAt session files now
+  pub answered : Answered first now text kept before so_far
+
+-- some first lines were answered, which led to a state in which the session is, and the texts of their answers were put, but for an end of the last one's
+pub record AnsweredPart (first : State) (session : SessionView) (files : Files) (lines : List Text) (before : List ℕ) (after : Option (List ℕ)) : Type 0 where
   pub done : List Text
   pub others : List Text
   pub first_lines : done ++ others ≡ lines
   pub answers : List Answer
   pub last : State
   pub run : Run first done answers last
-  pub same_files : last.files ≡ files
-  pub size : ℕ
-  pub put : after ≡ Some (before ++ take size (answers_text answers))
+  pub at : IsAt session files last
+  pub put : PutsFront answers before after
 
--- these lines were answered up to this state, and the texts of their answers were put
-pub record AnsweredAll (first last : State) (files : Files) (lines : List Text) (before : List ℕ) (after : Option (List ℕ)) : Type 0 where
+-- these lines were answered, which led to a state in which the session is, and the texts of their answers were put
+pub record AnsweredAll (first : State) (session : SessionView) (files : Files) (lines : List Text) (before : List ℕ) (after : Option (List ℕ)) : Type 0 where
   pub answers : List Answer
+  pub last : State
   pub run : Run first lines answers last
-  pub same_files : last.files ≡ files
+  pub at : IsAt session files last
   pub put : after ≡ Some (before ++ answers_text answers)
 
--- any line of which these bytes are kept is answered, with further bytes behind it
-abbrev pub AnswersBehind : (Files → Text → State) → (Files → Text → State) → List ℕ → List ℕ → Option (List ℕ) → Option (List ℕ) → Result (Unit {0}) SinkFault → Type 0
-AnswersBehind old new kept line before after did = (files : Files) (script text : Text) → kept ≡ kept_of text → AnswersLine (old files script) (new files script) (text ++ line) before after did
+-- from each state in which the session is over the first of these files, any line that the bytes stand for is answered
+abbrev pub AnswersBytes : SessionView → Files → SessionView → Files → List ℕ → Option (List ℕ) → Option (List ℕ) → Result (Unit {0}) SinkFault → Type 0
+AnswersBytes old files new files_now bytes before after did = (s : State) (line : Text) → IsAt old files s → StandsFor bytes line → LineAnswered new files_now s line before after did
+
+-- the same for any line of which these bytes are kept, with further bytes behind it
+abbrev pub AnswersBehind : SessionView → Files → SessionView → Files → List ℕ → List ℕ → Option (List ℕ) → Option (List ℕ) → Result (Unit {0}) SinkFault → Type 0
+AnswersBehind old files new files_now kept line before after did = (s : State) (text : Text) → IsAt old files s → kept ≡ kept_of text → LineAnswered new files_now s (text ++ line) before after did
 
 -- whatever was answered of a script so far, it goes on over a piece behind that
-abbrev pub AnswersPiece : (Files → Text → State) → (Files → Text → State) → List ℕ → List ℕ → List ℕ → Option (List ℕ) → Option (List ℕ) → Type 0
-AnswersPiece old new kept kept_now piece so_far after = (first : State) (files : Files) (script text : Text) (before : List ℕ) → Answered first (old files script) text kept before so_far
-    → Answered first (new files script) (text ++ piece) kept_now before after
+abbrev pub AnswersPiece : SessionView → Files → SessionView → Files → List ℕ → List ℕ → List ℕ → Option (List ℕ) → Option (List ℕ) → Type 0
+AnswersPiece old files new files_now kept kept_now piece so_far after = (first : State) (text : Text) (before : List ℕ) → AnsweredBy old files first text kept before so_far → AnsweredBy new files_now first (text ++ piece) kept_now before after
 
 -- the same where a put was refused
-abbrev pub CutsPiece : (Files → Text → State) → List ℕ → List ℕ → Option (List ℕ) → Option (List ℕ) → Type 0
-CutsPiece old kept piece so_far after = (first : State) (files : Files) (script text : Text) (before : List ℕ) → Answered first (old files script) text kept before so_far
-    → AnsweredPart first files (ended_lines_of (text ++ piece)) before after
+abbrev pub CutsPiece : SessionView → Files → SessionView → Files → List ℕ → List ℕ → Option (List ℕ) → Option (List ℕ) → Type 0
+CutsPiece old files new files_now kept piece so_far after = (first : State) (text : Text) (before : List ℕ) → AnsweredBy old files first text kept before so_far → AnsweredPart first new files_now (ended_lines_of (text ++ piece)) before after
 
 -- whatever was answered of a script so far, it is all of the script
-abbrev pub AnswersEnd : (Files → Text → State) → (Files → Text → State) → List ℕ → Option (List ℕ) → Option (List ℕ) → Type 0
-AnswersEnd old new kept so_far after = (first : State) (files : Files) (script text : Text) (before : List ℕ) → Answered first (old files script) text kept before so_far
-    → AnsweredAll first (new files script) files (lines_of text) before after
+abbrev pub AnswersEnd : SessionView → Files → SessionView → Files → List ℕ → Option (List ℕ) → Option (List ℕ) → Type 0
+AnswersEnd old files new files_now kept so_far after = (first : State) (text : Text) (before : List ℕ) → AnsweredBy old files first text kept before so_far → AnsweredAll first new files_now (lines_of text) before after
 
 -- the same where a put was refused
-abbrev pub CutsEnd : (Files → Text → State) → List ℕ → Option (List ℕ) → Option (List ℕ) → Type 0
-CutsEnd old kept so_far after = (first : State) (files : Files) (script text : Text) (before : List ℕ) → Answered first (old files script) text kept before so_far → AnsweredPart first files (lines_of text) before after
+abbrev pub CutsEnd : SessionView → Files → SessionView → Files → List ℕ → Option (List ℕ) → Option (List ℕ) → Type 0
+CutsEnd old files new files_now kept so_far after = (first : State) (text : Text) (before : List ℕ) → AnsweredBy old files first text kept before so_far → AnsweredPart first new files_now (lines_of text) before after
 
--- what was answered of a script, by what stopped it
-abbrev pub ScriptRun : State → State → Files → Text → List ℕ → Option (List ℕ) → Result (Unit {0}) Stop → Type 0
-ScriptRun first last files text before after (Ok x) = (length text ≤ most_script_bytes) × AnsweredAll first last files (lines_of text) before after
-ScriptRun first last files text before after (Err stop.ReadFault) = (size : ℕ) × AnsweredAll first last files (ended_lines_of (take size text)) before after
-ScriptRun first last files text before after (Err stop.WriteFault) = AnsweredPart first files (lines_of text) before after
-ScriptRun first last files text before after (Err stop.Memory) = AnsweredPart first files (lines_of text) before after
-ScriptRun first last files text before after (Err stop.TooLong) = (most_script_bytes < length text) × AnsweredAll first last files (ended_lines_of (take most_script_bytes text)) before after
+-- what was answered of a script and the session that it led to, by what stopped it
+abbrev pub ScriptRun : State → SessionView → Files → Text → List ℕ → Option (List ℕ) → Result (Unit {0}) Stop → Type 0
+ScriptRun first session files text before after (Ok x) = (length text ≤ most_script_bytes) × AnsweredAll first session files (lines_of text) before after
+ScriptRun first session files text before after (Err stop.ReadFault) = (size : ℕ) × AnsweredAll first session files (ended_lines_of (take size text)) before after
+ScriptRun first session files text before after (Err stop.WriteFault) = AnsweredPart first session files (lines_of text) before after
+ScriptRun first session files text before after (Err stop.Memory) = AnsweredPart first session files (lines_of text) before after
+ScriptRun first session files text before after (Err stop.TooLong) = (most_script_bytes < length text) × AnsweredAll first session files (ended_lines_of (take most_script_bytes text)) before after

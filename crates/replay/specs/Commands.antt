@@ -1,5 +1,5 @@
 -- What is done over a heap with a line and with a command, and what is asked of the values that commands work on.
-use Rattle.std.specs.Prelude.{◌≡◌, ◌<◌, ℕ, length, true, List, [], ◌∷◌, Option, Some, None, Result, Ok, Err}
+use Rattle.std.specs.Prelude.{◌≡◌, ◌<◌, ◌⊎◌, ℕ, length, true, List, [], ◌∷◌, Option, Some, None, Result, Ok, Err}
 use Rattle.std.specs.Option.{unwrap_or}
 use Rattle.spur_graph.specs.declared.answer.Value.{Value}
 use Rattle.spur_graph.specs.declared.answer.Value.TheVariants.{Ref}
@@ -11,25 +11,35 @@ use Rattle.spur_graph.specs.Value.{named_by, is_immediate}
 use Rattle.spur_graph.specs.Node.{Node}
 use Rattle.spur_graph.specs.Graph.{Graph, node}
 use Rattle.spur_graph.specs.Form.{Form}
-use Rattle.spur_graph.specs.State.{Files}
+use Rattle.spur_graph.specs.State.{State}
 use Rattle.spur_graph.specs.Refusals.{Row, test, handles, raw_read, raw_write, raw_unit, index_in}
 use Rattle.spur_graph.specs.Refused.{refused}
 use Rattle.spur_graph.specs.Does.{Does}
-use Rattle.spur_graph.specs.Step.{Answers, Step}
+use Rattle.spur_graph.specs.Step.{Answers, Step, Renamed}
 use Rattle.spur_graph.specs.Heaps.{View}
 use Rattle.object_header.specs.Formats.{is_method}
 use Rattle.spur_graph.specs.Ordinary.{is_good_reference}
 use Rattle.spur_heap.specs.Views.{IsOrdinary, node_in, store}
 use Rattle.immediates.specs.declared.word_kind.Range.{Range}
-use Rattle.replay.specs.Sessions.{graph_of, room_of, value_in, state_in, StandsFor}
+use Rattle.replay.specs.Sessions.{graph_of, room_of, value_in, over, StandsFor}
 
--- over any files and script, each line that the bytes stand for has this answer, and leads to this heap
+-- a state over a heap, with the files and the script of another
+pub record IsOver (v : View) (s t : State) : Type 0 where
+  pub heap : t ≡ over v t
+  pub same_files : t.files ≡ s.files
+  pub same_script : t.script ≡ s.script
+
+-- the states are one, or differ in names alone
+abbrev pub AreAlike : State → State → Type 0
+AreAlike s t = (s ≡ t) ⊎ Renamed s t
+
+-- in each state over a heap, a line that the bytes stand for has this answer, and leads to a state over this heap, exactly or under other names
 abbrev pub Replies : View → List ℕ → Answer → View → Type 0
-Replies old bytes answer new = (files : Files) (script line : Text) → StandsFor bytes line → Answers (state_in old files script) line answer (state_in new files script)
+Replies old bytes answer new = (s : State) (line : Text) → StandsFor bytes line → (exact t : State) × Answers (over old s) line answer exact × AreAlike exact t × IsOver new s t
 
--- the same, where the names of the graph that it leads to are free
+-- the same by a step of the machine
 abbrev pub Steps : View → List ℕ → Answer → View → Type 0
-Steps old bytes answer new = (files : Files) (script line : Text) → StandsFor bytes line → Step (state_in old files script) line answer (state_in new files script)
+Steps old bytes answer new = (s : State) (line : Text) → StandsFor bytes line → (t : State) × Step (over old s) line answer t × IsOver new s t
 
 -- the graph and the room are as before
 abbrev pub Same : View → View → Type 0
@@ -39,13 +49,23 @@ Same old new = (graph_of new ≡ graph_of old) × (room_of new ≡ room_of old)
 abbrev pub Becomes : View → View → Graph → Type 0
 Becomes old new graph = (graph_of new ≡ graph) × (room_of new ≡ room_of old)
 
--- over any files and script, this is what refuses the command, if anything does
-abbrev pub Refuses : View → ℕ → Form → Option Refusal → Type 0
-Refuses v k form refusal = (files : Files) (script : Text) → refused (state_in v files script) k form ≡ refusal
+-- the bytes of the image's header, the limits and the phase are as before
+pub record Keeps (old new : View) : Type 0 where
+  pub carried : new.carried ≡ old.carried
+  pub limits : new.limits ≡ old.limits
+  pub phase : new.phase ≡ old.phase
 
--- over any files and script, the command is answered so and does so
+-- in each state over the heap this is the first of the command's row that refuses it, if any does
+abbrev pub FirstRefusal : View → ℕ → Form → Option Refusal → Type 0
+FirstRefusal v k form refusal = (s : State) → refused (over v s) k form ≡ refusal
+
+-- in each state over the heap the command is answered so, and leads to that state over this heap, under the same names
+abbrev pub ObeysExactly : View → ℕ → Form → Answer → View → Type 0
+ObeysExactly old k form answer new = (s : State) → Does (over old s) k form answer (over new s)
+
+-- in each state over the heap the command is answered so, and leads to a state over this heap, exactly or under other names
 abbrev pub Obeys : View → ℕ → Form → Answer → View → Type 0
-Obeys old k form answer new = (files : Files) (script : Text) → Does (state_in old files script) k form answer (state_in new files script)
+Obeys old k form answer new = (s : State) → (exact t : State) × Does (over old s) k form answer exact × AreAlike exact t × IsOver new s t
 
 -- the node that a value names
 abbrev pub node_of : Graph → Value → Node

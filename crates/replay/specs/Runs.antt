@@ -1,5 +1,5 @@
 -- What a run of the program puts, by its status.
-use Rattle.std.specs.Prelude.{◌≡◌, ◌≢◌, ◌≤◌, ◌<◌, ◌⊎◌, ℕ, ◌^◌, List, [], ◌∷◌, ◌++◌, take, length, slice_index, codes, Option, Some, None}
+use Rattle.std.specs.Prelude.{◌≡◌, ◌≢◌, ◌≤◌, ◌<◌, ◌⊎◌, ℕ, ◌^◌, List, [], ◌∷◌, ◌++◌, take, length, slice_index, codes, Bool, false, Option, Some, None}
 use Rattle.std.specs.List.{flat_map}
 use Rattle.spur_io.specs.Causes.{Rose}
 use Rattle.spur_graph.specs.declared.answer.Answer.{Answer}
@@ -10,9 +10,11 @@ use Rattle.spur_graph.specs.Step.{Renamed, Run}
 use Rattle.spur_graph.specs.Words.{number_in}
 use Rattle.spur_graph.specs.Lines.{lines_of, ended_lines_of}
 use Rattle.spur_graph.specs.Text.{answer_line}
+use Rattle.spur_graph.specs.Heaps.{Whole}
+use Rattle.spur_graph.specs.ImageFile.{header_bytes}
 use Rattle.spur_graph.specs.LoadedGraph.{loaded_graph, loaded_room}
 use Rattle.spur_graph.specs.ImageCauses.{Cause, FirstCause, IsAccepted, cause_line}
-use Rattle.replay.specs.Sessions.{SessionView, state_of}
+use Rattle.replay.specs.Sessions.{SessionView, IsStateOf}
 use Rattle.replay.specs.declared.runs.Status.{Status}
 use Rattle.replay.specs.declared.runs.Status.TheVariants as status
 
@@ -93,56 +95,78 @@ pub record PutsAll (files : Files) (image script : Text) (limits : Limits) (line
   pub answering : Answering files image script limits lines
   pub put : after ≡ Some (before ++ answers_text answering.answers)
 
--- the first lines of the script were answered, and a part of the texts of their answers was put
+-- the texts of these answers were put, but for an end of the last one's
+pub record PutsFront (answers : List Answer) (before : List ℕ) (after : Option (List ℕ)) : Type 0 where
+  pub whole : List Answer
+  pub last : List Answer
+  pub are : answers ≡ whole ++ last
+  pub one : length last ≤ 1
+  pub size : ℕ
+  pub put : after ≡ Some (before ++ (answers_text whole ++ take size (answers_text last)))
+
+-- the first lines of the script were answered, and the texts of their answers were put, but for an end of the last one's
 pub record PutsPart (files : Files) (image script : Text) (limits : Limits) (before : List ℕ) (after : Option (List ℕ)) : Type 0 where
   pub accepted : IsAccepted (files image) limits
   pub lines : List Text
   pub others : List Text
   pub first : lines ++ others ≡ lines_of (files script)
   pub answering : Answering files image script limits lines
-  pub size : ℕ
-  pub put : after ≡ Some (before ++ take size (answers_text answering.answers))
+  pub put : PutsFront answering.answers before after
 
 -- all lines that are ended in the first bytes of the script were answered, and the texts of their answers were put
 pub record PutsEnded (files : Files) (image script : Text) (limits : Limits) (before : List ℕ) (after : Option (List ℕ)) : Type 0 where
   pub size : ℕ
   pub whole : PutsAll files image script limits (ended_lines_of (take size (files script))) before after
 
--- a session is kept that is in this state
-pub record IsKept (kept : Option SessionView) (files : Files) (last : State) : Type 0 where
+-- a session is kept that has ended or not, is in this state, and has the limits and the header bytes with which its image was loaded and nothing marked
+pub record IsKept (kept : Option SessionView) (image : List ℕ) (limits : Limits) (ended : Bool) (last : State) : Type 0 where
   pub session : SessionView
   pub is : kept ≡ Some session
-  pub state : state_of session files ≡ last
+  pub ends : session.ended ≡ ended
+  pub state : IsStateOf session last
+  pub carried : session.heap.carried ≡ take header_bytes image
+  pub same_limits : session.heap.limits ≡ limits
+  pub unmarked : session.heap.phase ≡ Whole
 
 -- a part of a line was put
 abbrev pub PutsPartOf : Text → List ℕ → Option (List ℕ) → Type 0
 PutsPartOf line before after = (size : ℕ) × (after ≡ Some (before ++ take size line))
 
 -- a put failed or found no memory: in the usage line, in the line of a refused image, or in the answers
-pub data IsCutShort (words : List Text) (files : Files) (before : List ℕ) (after : Option (List ℕ)) : Type 0 where
-  in_usage : IsMisused words → PutsPartOf usage_line before after → IsCutShort words files before after
-  in_refusal : {image script : Text} {limits : Limits} (cause : Cause) → IsReplay words image script limits → FirstCause (files image) limits cause → PutsPartOf (cause_line cause) before after → IsCutShort words files before after
-  in_answers : {image script : Text} {limits : Limits} → IsReplay words image script limits → PutsPart files image script limits before after → IsCutShort words files before after
+pub data IsCutShort (words : List Text) (files : Files) (before : List ℕ) (after : Option (List ℕ)) (kept : Option SessionView) : Type 0 where
+  in_usage : IsMisused words → PutsPartOf usage_line before after → kept ≡ None → IsCutShort words files before after kept
+  in_refusal : {image script : Text} {limits : Limits} (cause : Cause) → IsReplay words image script limits → FirstCause (files image) limits cause → PutsPartOf (cause_line cause) before after → kept ≡ None → IsCutShort words files before after kept
+  in_answers : {image script : Text} {limits : Limits} → IsReplay words image script limits → (part : PutsPart files image script limits before after)
+      → IsKept kept (files image) limits false part.answering.last → IsCutShort words files before after kept
 
--- what was put at each status, where the files and the sink tell their bytes, and at the end of the script which session is kept
+-- what was put and which session is kept at each status, where the files and the sink tell their bytes: where lines were answered one in the state behind
+-- these, and none where the words are misused, the image is refused, or nothing was put
 pub data Outcome (words : List Text) (files : Files) (before : List ℕ) (after : Option (List ℕ)) (kept : Option SessionView) : Status → Type 0 where
   done : {image script : Text} {limits : Limits} → IsReplay words image script limits → length (files script) ≤ most_script_bytes → (all : PutsAll files image script limits (lines_of (files script)) before after)
-      → IsKept kept files all.answering.last → Outcome words files before after kept status.Done
-  usage : IsMisused words → after ≡ Some (before ++ usage_line) → Outcome words files before after kept status.Usage
-  refused : {image script : Text} {limits : Limits} (cause : Cause) → IsReplay words image script limits → FirstCause (files image) limits cause → after ≡ Some (before ++ cause_line cause) → Outcome words files before after kept status.Refused
-  unread_image : {image script : Text} {limits : Limits} → IsReplay words image script limits → after ≡ Some before → Outcome words files before after kept status.ReadFault
-  unread_script : {image script : Text} {limits : Limits} → IsReplay words image script limits → PutsEnded files image script limits before after → Outcome words files before after kept status.ReadFault
+      → IsKept kept (files image) limits false all.answering.last → Outcome words files before after kept status.Done
+  usage : IsMisused words → after ≡ Some (before ++ usage_line) → kept ≡ None → Outcome words files before after kept status.Usage
+  refused : {image script : Text} {limits : Limits} (cause : Cause) → IsReplay words image script limits → FirstCause (files image) limits cause → after ≡ Some (before ++ cause_line cause) → kept ≡ None → Outcome words files before after kept status.Refused
+  unread_image : {image script : Text} {limits : Limits} → IsReplay words image script limits → after ≡ Some before → kept ≡ None → Outcome words files before after kept status.ReadFault
+  unread_script : {image script : Text} {limits : Limits} → IsReplay words image script limits → (ended : PutsEnded files image script limits before after)
+      → IsKept kept (files image) limits false ended.whole.answering.last → Outcome words files before after kept status.ReadFault
   too_long : {image script : Text} {limits : Limits} → IsReplay words image script limits → most_script_bytes < length (files script) → (all : PutsAll files image script limits (ended_lines_of (take most_script_bytes (files script))) before after)
-      → IsKept kept files all.answering.last → Outcome words files before after kept status.TooLong
-  cut_short : IsCutShort words files before after → Outcome words files before after kept status.WriteFault
-  no_memory : IsCutShort words files before after → Outcome words files before after kept status.Memory
-  no_memory_for_image : {image script : Text} {limits : Limits} → IsReplay words image script limits → after ≡ Some before → Outcome words files before after kept status.Memory
+      → IsKept kept (files image) limits false all.answering.last → Outcome words files before after kept status.TooLong
+  cut_short : IsCutShort words files before after kept → Outcome words files before after kept status.WriteFault
+  no_memory : IsCutShort words files before after kept → Outcome words files before after kept status.Memory
+  no_memory_for_image : {image script : Text} {limits : Limits} → IsReplay words image script limits → after ≡ Some before → kept ≡ None → Outcome words files before after kept status.Memory
 
--- no session is kept where none was started
-abbrev pub IsLeft : Status → Option SessionView → Type 0
-IsLeft status.Usage kept = kept ≡ None
-IsLeft status.Refused kept = kept ≡ None
-IsLeft other kept = Unit {0}
+-- a session that has not ended is kept
+abbrev pub IsOpen : Option SessionView → Type 0
+IsOpen kept = (session : SessionView) × (kept ≡ Some session) × (session.ended ≡ false)
+
+-- what is kept by the status, whatever files and sink tell: one that has not ended where the script was run, and none where the words are misused or the
+-- image is refused
+abbrev pub IsLeft : List Text → Status → Option SessionView → Type 0
+IsLeft words status.Usage kept = kept ≡ None
+IsLeft words status.Refused kept = kept ≡ None
+IsLeft words status.Done kept = IsOpen kept
+IsLeft words status.TooLong kept = IsOpen kept
+IsLeft words other kept = IsMisused words → kept ≡ None
 
 -- the usage line is put exactly where the words are in no known form, whatever files and sink tell
 abbrev pub Judges : List Text → Status → Type 0

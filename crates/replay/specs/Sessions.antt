@@ -1,12 +1,14 @@
 -- What contracts see of a session, and the state of the machine in which it is.
-use Rattle.std.specs.Prelude.{◌≡◌, ◌⊎◌, ◌<◌, ℕ, List, length, Bool, refl}
+use Rattle.std.specs.Prelude.{◌≡◌, ◌⊎◌, ◌<◌, ℕ, List, length, Bool, true, false, Option, Some, None, IfSome, refl}
 use Rattle.std.specs.Coded.{Coded, code_by, coded×, coded_ℕ, coded_list, coded_bool}
 use Rattle.spur_graph.specs.declared.answer.Value.{Value}
+use Rattle.spur_graph.specs.declared.answer.Answer.{Answer}
 use Rattle.spur_graph.specs.Bytes.{Text}
 use Rattle.spur_graph.specs.Graph.{Graph}
 use Rattle.spur_graph.specs.Room.{Room}
 use Rattle.spur_graph.specs.State.{State, Files}
-use Rattle.spur_graph.specs.Step.{longest_line}
+use Rattle.spur_graph.specs.Form.{Form, SegLoad}
+use Rattle.spur_graph.specs.Step.{Reads, Step, longest_line}
 use Rattle.spur_graph.specs.Heaps.{View, heap_graph, heap_room, heap_value}
 use Rattle.spur_heap.specs.Parts.{view_code}
 
@@ -31,20 +33,60 @@ room_of v = heap_room v
 
 -- the value of a word in a heap
 abbrev pub value_in : View → ℕ → Value
-value_in v word = heap_value v.words word
+value_in v word = heap_value v word
 
--- the state of the machine over a heap, these files and this script
-abbrev pub state_in : View → Files → Text → State
-state_in v files script = record { graph = graph_of v; room = room_of v; files = files; script = script }
+-- the state with the graph and the room of a heap in place of its own
+abbrev pub over : View → State → State
+over v s = record s { graph = graph_of v; room = room_of v }
 
--- the state of the machine in which a session is, over these files
-abbrev pub state_of : SessionView → Files → State
-state_of s files = state_in s.heap files s.script
+-- a session is in this state: graph and room are those of its heap, and it runs this script. The files are no part of a session
+pub record IsStateOf (session : SessionView) (s : State) : Type 0 where
+  pub heap : s ≡ over session.heap s
+  pub script : s.script ≡ session.script
+
+-- the same over these files
+pub record IsAt (session : SessionView) (files : Files) (s : State) : Type 0 where
+  pub state : IsStateOf session s
+  pub same_files : s.files ≡ files
 
 -- the bytes of a line, of one that is too long only a front that is too long too
 abbrev pub StandsFor : List ℕ → Text → Type 0
 StandsFor bytes line = (bytes ≡ line) ⊎ ((longest_line < length bytes) × (longest_line < length line))
 
--- both are sessions of one script, and have ended or not
-abbrev pub SameRun : SessionView → SessionView → Type 0
-SameRun old new = (new.script ≡ old.script) × (new.ended ≡ old.ended)
+-- the command reads a file
+abbrev pub reads_file : Form → Bool
+reads_file (SegLoad h o name) = true
+reads_file form = false
+
+-- the line is no command that reads a file
+abbrev pub ReadsNone : Text → Type 0
+ReadsNone line = (k : ℕ) (form : Form) → Reads line k form → reads_file form ≡ false
+
+-- where a store tells its bytes the files are these; where it tells none they are any, and then no file is read
+abbrev pub AreSeen : Option Files → Text → Files → Type 0
+AreSeen (Some store) line files = files ≡ store
+AreSeen None line files = ReadsNone line
+
+-- where a store tells its bytes the files are these
+abbrev pub AreTold : Option Files → Files → Type 0
+AreTold told files = IfSome told (λ store. files ≡ store)
+
+-- a step with this answer leads to a state in which the session is, over what the store tells
+pub record Advance (session : SessionView) (told : Option Files) (s : State) (line : Text) (answer : Answer) : Type 0 where
+  pub now : State
+  pub is : IsStateOf session now
+  pub files : AreTold told now.files
+  pub step : Step s line answer now
+
+-- from each state in which a session is, over what the store tells, each line that the bytes stand for has this answer, and leads to a state in which the
+-- session then is, over what the store then tells
+abbrev pub Advances : SessionView → Option Files → List ℕ → Answer → SessionView → Option Files → Type 0
+Advances old told bytes answer new told_now = (s : State) (line : Text) → IsStateOf old s → AreSeen told line s.files → StandsFor bytes line → Advance new told_now s line answer
+
+-- both are sessions of one script on one image, and have ended or not
+pub record SameRun (old new : SessionView) : Type 0 where
+  pub script : new.script ≡ old.script
+  pub ended : new.ended ≡ old.ended
+  pub carried : new.heap.carried ≡ old.heap.carried
+  pub limits : new.heap.limits ≡ old.heap.limits
+  pub phase : new.heap.phase ≡ old.heap.phase

@@ -6,7 +6,7 @@ ghost use Rattle.spur_graph.specs.Graph.{bind};
 ghost use Rattle.spur_graph.specs.Form.{Fetch, Copy, Class, Store, Unit, SetUnit, view};
 ghost use Rattle.spur_graph.specs.Refusals.{handles, first};
 ghost use Rattle.spur_heap.specs.Views.{IsGood};
-ghost use Rattle.replay.specs.Commands.{Refuses, Obeys, Becomes, value_row};
+ghost use Rattle.replay.specs.Commands.{FirstRefusal, Obeys, ObeysExactly, Becomes, Keeps, value_row};
 ghost use Rattle.replay.specs.Sessions.{graph_of, value_in};
 
 use crate::handles::{bind, held, room_for, unbind};
@@ -23,6 +23,7 @@ fn bind_word(heap: &mut Heap, mutator: u8, h: &HandleName, word: u64) -> Result<
     ensures refusal { handles (graph_of heap.old) mutator h.now.bytes ≡ result_err result }
     ensures bound { IfOk result (λ answer. (answer ≡ Done) × (Becomes heap.old heap.new (bind (graph_of heap.old) mutator h.now.bytes (value_in heap.old word)))) }
     ensures same { OnErr result (heap.new ≡ heap.old) }
+    ensures keeps { Keeps heap.old heap.new }
 {
     room_for(heap, mutator, h)?;
     bind(heap, mutator, h, word);
@@ -40,6 +41,7 @@ fn bind_value(
     ensures refusal { first (value_row (graph_of heap.old) mutator h.now.bytes value) ≡ result_err result }
     ensures bound { IfOk result (λ answer. (answer ≡ Done) × IfOk value (λ word. Becomes heap.old heap.new (bind (graph_of heap.old) mutator h.now.bytes (value_in heap.old word)))) }
     ensures same { OnErr result (heap.new ≡ heap.old) }
+    ensures keeps { Keeps heap.old heap.new }
 {
     room_for(heap, mutator, h)?;
     match value {
@@ -52,9 +54,10 @@ fn bind_value(
 }
 
 fn copy(heap: &mut Heap, mutator: u8, h: &HandleName, o: &HandleName) -> Result<Answer, Refusal>
-    ensures refusal { Refuses heap.old mutator (Copy h.now.bytes o.now.bytes) (result_err result) }
-    ensures done { IfOk result (λ answer. Obeys heap.old mutator (Copy h.now.bytes o.now.bytes) answer heap.new) }
+    ensures refusal { FirstRefusal heap.old mutator (Copy h.now.bytes o.now.bytes) (result_err result) }
+    ensures done { IfOk result (λ answer. ObeysExactly heap.old mutator (Copy h.now.bytes o.now.bytes) answer heap.new) }
     ensures same { OnErr result (heap.new ≡ heap.old) }
+    ensures keeps { Keeps heap.old heap.new }
 {
     let word = held(heap, mutator, o)?;
     bind_word(heap, mutator, h, word)
@@ -67,9 +70,10 @@ fn bind_class(
     h: &HandleName,
     o: &HandleName,
 ) -> Result<Answer, Refusal>
-    ensures refusal { Refuses heap.old mutator (Class h.now.bytes o.now.bytes) (result_err result) }
-    ensures done { IfOk result (λ answer. Obeys heap.old mutator (Class h.now.bytes o.now.bytes) answer heap.new) }
+    ensures refusal { FirstRefusal heap.old mutator (Class h.now.bytes o.now.bytes) (result_err result) }
+    ensures done { IfOk result (λ answer. ObeysExactly heap.old mutator (Class h.now.bytes o.now.bytes) answer heap.new) }
     ensures same { OnErr result (heap.new ≡ heap.old) }
+    ensures keeps { Keeps heap.old heap.new }
 {
     let word = held(heap, mutator, o)?;
     let class = class(heap, word);
@@ -84,9 +88,10 @@ fn fetch(
     o: &HandleName,
     i: u128,
 ) -> Result<Answer, Refusal>
-    ensures refusal { Refuses heap.old mutator (Fetch h.now.bytes o.now.bytes i) (result_err result) }
-    ensures done { IfOk result (λ answer. Obeys heap.old mutator (Fetch h.now.bytes o.now.bytes i) answer heap.new) }
+    ensures refusal { FirstRefusal heap.old mutator (Fetch h.now.bytes o.now.bytes i) (result_err result) }
+    ensures done { IfOk result (λ answer. ObeysExactly heap.old mutator (Fetch h.now.bytes o.now.bytes i) answer heap.new) }
     ensures same { OnErr result (heap.new ≡ heap.old) }
+    ensures keeps { Keeps heap.old heap.new }
 {
     let word = held(heap, mutator, o)?;
     room_for(heap, mutator, h)?;
@@ -103,9 +108,10 @@ fn store(
     i: u128,
     v: &HandleName,
 ) -> Result<Answer, Refusal>
-    ensures refusal { Refuses heap.old mutator (Store o.now.bytes i v.now.bytes) (result_err result) }
-    ensures done { IfOk result (λ answer. Obeys heap.old mutator (Store o.now.bytes i v.now.bytes) answer heap.new) }
+    ensures refusal { FirstRefusal heap.old mutator (Store o.now.bytes i v.now.bytes) (result_err result) }
+    ensures done { IfOk result (λ answer. ObeysExactly heap.old mutator (Store o.now.bytes i v.now.bytes) answer heap.new) }
     ensures same { OnErr result (heap.new ≡ heap.old) }
+    ensures keeps { Keeps heap.old heap.new }
 {
     let word = held(heap, mutator, o)?;
     let value = held(heap, mutator, v)?;
@@ -117,8 +123,8 @@ fn store(
 
 /// Reads a unit of the object of a handle.
 fn unit(heap: &Heap, mutator: u8, o: &HandleName, i: u128) -> Result<Answer, Refusal>
-    ensures refusal { Refuses heap.now mutator (Unit o.now.bytes i) (result_err result) }
-    ensures done { IfOk result (λ answer. Obeys heap.now mutator (Unit o.now.bytes i) answer heap.now) }
+    ensures refusal { FirstRefusal heap.now mutator (Unit o.now.bytes i) (result_err result) }
+    ensures done { IfOk result (λ answer. ObeysExactly heap.now mutator (Unit o.now.bytes i) answer heap.now) }
 {
     let word = held(heap, mutator, o)?;
     let (start, at) = unit_place(heap, word, i)?;
@@ -133,9 +139,10 @@ fn set_unit(
     i: u128,
     n: u128,
 ) -> Result<Answer, Refusal>
-    ensures refusal { Refuses heap.old mutator (SetUnit o.now.bytes i n) (result_err result) }
-    ensures done { IfOk result (λ answer. Obeys heap.old mutator (SetUnit o.now.bytes i n) answer heap.new) }
+    ensures refusal { FirstRefusal heap.old mutator (SetUnit o.now.bytes i n) (result_err result) }
+    ensures done { IfOk result (λ answer. ObeysExactly heap.old mutator (SetUnit o.now.bytes i n) answer heap.new) }
     ensures same { OnErr result (heap.new ≡ heap.old) }
+    ensures keeps { Keeps heap.old heap.new }
 {
     let word = held(heap, mutator, o)?;
     let (start, at) = unit_place(heap, word, i)?;
@@ -147,9 +154,10 @@ fn set_unit(
 
 /// What a command is answered, or the first refusal that applies, which changes nothing.
 pub(crate) fn obey(heap: &mut Heap, mutator: u8, command: &Command) -> Result<Answer, Refusal>
-    ensures refusal { Refuses heap.old mutator (view command.now) (result_err result) }
+    ensures refusal { FirstRefusal heap.old mutator (view command.now) (result_err result) }
     ensures done { IfOk result (λ answer. Obeys heap.old mutator (view command.now) answer heap.new) }
     ensures same { OnErr result (heap.new ≡ heap.old) }
+    ensures keeps { Keeps heap.old heap.new }
 {
     heap.whole();
     match command {

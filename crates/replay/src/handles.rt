@@ -5,7 +5,7 @@ ghost use Rattle.spur_graph.specs.Graph.{held, bind, unbind};
 ghost use Rattle.spur_graph.specs.Refusals.{unknown, handles};
 ghost use Rattle.spur_heap.specs.Views.{IsGood};
 ghost use Rattle.replay.specs.Sessions.{graph_of, value_in};
-ghost use Rattle.replay.specs.Commands.{Becomes};
+ghost use Rattle.replay.specs.Commands.{Becomes, Keeps};
 
 use handle_table::MOST_HANDLES;
 use spur_graph::{HandleName, Refusal};
@@ -35,6 +35,7 @@ pub(crate) fn bind(heap: &mut Heap, mutator: u8, name: &HandleName, word: u64)
     requires good { IsGood heap.old word }
     requires room { handles (graph_of heap.old) mutator name.now.bytes ≡ None }
     ensures bound { Becomes heap.old heap.new (bind (graph_of heap.old) mutator name.now.bytes (value_in heap.old word)) }
+    ensures keeps { Keeps heap.old heap.new }
 {
     let _bound = heap.bind(mutator, *name, word);
 }
@@ -44,6 +45,7 @@ pub(crate) fn unbind(heap: &mut Heap, mutator: u8, name: &HandleName) -> Result<
     ensures refusal { unknown (graph_of heap.old) mutator (name.now.bytes ∷ []) ≡ result_err result }
     ensures unbound { OnOk result (Becomes heap.old heap.new (unbind (graph_of heap.old) mutator name.now.bytes)) }
     ensures same { OnErr result (heap.new ≡ heap.old) }
+    ensures keeps { Keeps heap.old heap.new }
 {
     if heap.unbind(mutator, name) {
         Ok(())

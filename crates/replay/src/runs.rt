@@ -4,13 +4,13 @@ ghost use Rattle.std.specs.Fmt.{decimal};
 ghost use Rattle.std.specs.String.{string_bytes};
 ghost use Rattle.spur_io.specs.Causes.{SinkCause};
 ghost use Rattle.spur_graph.specs.Bytes.{Text};
-ghost use Rattle.spur_graph.specs.State.{Files};
+ghost use Rattle.spur_graph.specs.State.{State, Files};
 ghost use Rattle.spur_graph.specs.Words.{number_in};
 ghost use Rattle.image_load.specs.Loaded.{AreLimits};
 ghost use Rattle.replay.specs.declared.runs.Status.TheVariants.{Refused};
-ghost use Rattle.replay.specs.Sessions.{SameRun, StandsFor, state_in};
+ghost use Rattle.replay.specs.Sessions.{SameRun, IsAt};
 ghost use Rattle.replay.specs.Runs.{IsPath, IsRoom, AsksRoom, IsCall, IsReplay, IsMisused, Outcome, Judges, Counts, IsLeft};
-ghost use Rattle.replay.specs.Answered.{AnswersLine, AnswersBehind, AnswersPiece, CutsPiece, AnswersEnd, CutsEnd, ScriptRun};
+ghost use Rattle.replay.specs.Answered.{AnswersBytes, AnswersBehind, AnswersPiece, CutsPiece, AnswersEnd, CutsEnd, ScriptRun};
 ghost use Rattle.replay.specs.Stops.{IsPut, IsRefusing, status_of};
 
 use crate::lines::{OpenLine, cut_line};
@@ -121,7 +121,7 @@ impl From<Stop> for Status {
 
 /// Answers a line, and puts the answer.
 fn answer_line<K: Sink>(session: &mut Session, line: &[u8], out: &mut K) -> Result<(), SinkFault>
-    ensures answer { (files : Files) (script text : Text) → StandsFor line.now text → AnswersLine (state_in session.old.heap files script) (state_in session.new.heap files script) text (K.so_far out.old) (K.so_far out.new) result }
+    ensures answer { (files : Files) → AnswersBytes session.old files session.new files line.now (K.so_far out.old) (K.so_far out.new) result }
     ensures cause { SinkCause (K.fault_count out.old) (K.fault_count out.new) result }
     ensures run { SameRun session.old session.new }
 {
@@ -138,7 +138,7 @@ fn answer_ended<K: Sink>(
     line: &[u8],
     out: &mut K,
 ) -> Result<(), SinkFault>
-    ensures answer { AnswersBehind (state_in session.old.heap) (state_in session.new.heap) open_line.old line.now (K.so_far out.old) (K.so_far out.new) result }
+    ensures answer { (files : Files) → AnswersBehind session.old files session.new files open_line.old line.now (K.so_far out.old) (K.so_far out.new) result }
     ensures none { open_line.new ≡ [] }
     ensures cause { SinkCause (K.fault_count out.old) (K.fault_count out.new) result }
     ensures run { SameRun session.old session.new }
@@ -159,8 +159,8 @@ fn answer_piece<K: Sink>(
     piece: &[u8],
     out: &mut K,
 ) -> Result<(), SinkFault>
-    ensures answered { OnOk result (AnswersPiece (state_in session.old.heap) (state_in session.new.heap) open_line.old open_line.new piece.now (K.so_far out.old) (K.so_far out.new)) }
-    ensures part { OnErr result (CutsPiece (state_in session.old.heap) open_line.old piece.now (K.so_far out.old) (K.so_far out.new)) }
+    ensures answered { OnOk result ((files : Files) → AnswersPiece session.old files session.new files open_line.old open_line.new piece.now (K.so_far out.old) (K.so_far out.new)) }
+    ensures part { OnErr result ((files : Files) → CutsPiece session.old files session.new files open_line.old piece.now (K.so_far out.old) (K.so_far out.new)) }
     ensures cause { SinkCause (K.fault_count out.old) (K.fault_count out.new) result }
     ensures run { SameRun session.old session.new }
 {
@@ -179,8 +179,8 @@ fn answer_last<K: Sink>(
     open_line: &OpenLine,
     out: &mut K,
 ) -> Result<(), SinkFault>
-    ensures answered { OnOk result (AnswersEnd (state_in session.old.heap) (state_in session.new.heap) open_line.now (K.so_far out.old) (K.so_far out.new)) }
-    ensures part { OnErr result (CutsEnd (state_in session.old.heap) open_line.now (K.so_far out.old) (K.so_far out.new)) }
+    ensures answered { OnOk result ((files : Files) → AnswersEnd session.old files session.new files open_line.now (K.so_far out.old) (K.so_far out.new)) }
+    ensures part { OnErr result ((files : Files) → CutsEnd session.old files session.new files open_line.now (K.so_far out.old) (K.so_far out.new)) }
     ensures cause { SinkCause (K.fault_count out.old) (K.fault_count out.new) result }
     ensures run { SameRun session.old session.new }
 {
@@ -197,7 +197,7 @@ fn answer_script<F: Files, K: Sink>(
     script: &str,
     out: &mut K,
 ) -> Result<(), Stop>
-    ensures outcome { IfSome (F.told files.old) (λ store. IfSome (K.so_far out.old) (λ before. ScriptRun (state_in session.old.heap store script.now) (state_in session.new.heap store script.now) store (store script.now) before (K.so_far out.new) result)) }
+    ensures outcome { IfSome (F.told files.old) (λ store. IfSome (K.so_far out.old) (λ before. (first : State) → IsAt session.old store first → ScriptRun first session.new store (store script.now) before (K.so_far out.new) result)) }
     ensures counts { Counts (F.read_count files.old) (F.read_count files.new) (K.fault_count out.old) (K.fault_count out.new) (status_of result) }
     ensures writes { F.write_count files.new ≡ F.write_count files.old }
     ensures same { F.told files.new ≡ F.told files.old }
@@ -297,7 +297,7 @@ fn replay<F: Files, K: Sink>(
     ensures counts { Counts (F.read_count files.old) (F.read_count files.new) (K.fault_count out.old) (K.fault_count out.new) result }
     ensures writes { F.write_count files.new ≡ F.write_count files.old }
     ensures same { F.told files.new ≡ F.told files.old }
-    ensures kept { IsLeft result kept.new }
+    ensures kept { (words : List Text) → IsReplay words image.now script.now limits → IsLeft words result kept.new }
 {
     let mut session = match Session::start(alloc, files, image, script, limits) {
         Ok(session) => session,
@@ -402,7 +402,7 @@ pub fn run<F: Files, K: Sink>(
     ensures counts { Counts (F.read_count files.old) (F.read_count files.new) (K.fault_count out.old) (K.fault_count out.new) result }
     ensures writes { F.write_count files.new ≡ F.write_count files.old }
     ensures same { F.told files.new ≡ F.told files.old }
-    ensures kept { IsLeft result kept.new }
+    ensures kept { IsLeft (map string_bytes words.now) result kept.new }
 {
     match request_of(words) {
         Some(

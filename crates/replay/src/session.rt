@@ -1,16 +1,16 @@
 // A session, and what its lines are answered.
-ghost use Rattle.std.specs.Prelude.{◌≡◌, ℕ, List, true, false, IfOk, IfErr, IfSome, OnErr};
+ghost use Rattle.std.specs.Prelude.{◌≡◌, ℕ, List, take, true, false, Option, IfOk, IfErr, IfSome, OnErr};
+ghost use Rattle.std.specs.FinMap as map;
 ghost use Rattle.spur_graph.specs.declared.answer.Answer.TheVariants.{Refused};
-ghost use Rattle.spur_graph.specs.Bytes.{Text};
 ghost use Rattle.spur_graph.specs.State.{Files as FileBytes};
-ghost use Rattle.spur_graph.specs.Step.{Step};
+ghost use Rattle.spur_graph.specs.ImageFile.{header_bytes};
 ghost use Rattle.spur_graph.specs.ImageCauses.{IsAccepted};
 ghost use Rattle.spur_graph.specs.LoadedGraph.{loaded_graph, loaded_room};
-ghost use Rattle.spur_graph.specs.Heaps.{Stands};
+ghost use Rattle.spur_graph.specs.Heaps.{Stands, Whole};
 ghost use Rattle.image_load.specs.Loaded.{AreLimits, IsCauseOf, LoadCause};
 ghost use Rattle.replay.specs.declared.session.LineFault.TheVariants.{Ended};
-ghost use Rattle.replay.specs.Commands.{Replies, Steps};
-ghost use Rattle.replay.specs.Sessions.{SameRun, StandsFor, state_of};
+ghost use Rattle.replay.specs.Commands.{Replies, Steps, Keeps};
+ghost use Rattle.replay.specs.Sessions.{SameRun, Advances};
 
 use crate::commands::obey;
 use image_load::{LoadError, load};
@@ -44,6 +44,8 @@ pub struct Session {
 
 impl Model for Session {
     ghost use Rattle.std.specs.String.{string_bytes};
+    ghost use Rattle.std.specs.Prelude.{◌≡◌};
+    ghost use Rattle.spur_graph.specs.Heaps.{Whole};
     ghost use Rattle.replay.specs.Sessions.{SessionView, session_code};
 
     ghost Value = { SessionView };
@@ -51,12 +53,15 @@ impl Model for Session {
     ghost coded = { session_code };
 
     ghost view = { λ s. record { heap = s.heap; script = string_bytes s.script; ended = s.ended } };
+
+    ghost invariant = { λ s. s.heap.phase ≡ Whole };
 }
 
 /// What a line is answered, or why it is refused.
 fn try_line(heap: &mut Heap, bytes: &[u8]) -> Result<Answer, Refusal>
     ensures done { IfOk result (λ answer. Replies heap.old bytes.now answer heap.new) }
     ensures refused { IfErr result (λ why. Replies heap.old bytes.now (Refused why) heap.new) }
+    ensures keeps { Keeps heap.old heap.new }
 {
     match read_line(bytes) {
         Ok(line) => obey(heap, line.mutator, &line.command),
@@ -67,7 +72,8 @@ fn try_line(heap: &mut Heap, bytes: &[u8]) -> Result<Answer, Refusal>
 
 /// What a line is answered.
 fn reply(heap: &mut Heap, bytes: &[u8]) -> Answer
-    ensures { Replies heap.old bytes.now result heap.new }
+    ensures answer { Replies heap.old bytes.now result heap.new }
+    ensures keeps { Keeps heap.old heap.new }
 {
     match try_line(heap, bytes) {
         Ok(answer) => answer,
@@ -77,7 +83,8 @@ fn reply(heap: &mut Heap, bytes: &[u8]) -> Answer
 
 /// The step of a line over a heap.
 fn step(heap: &mut Heap, bytes: &[u8]) -> Answer
-    ensures { Steps heap.old bytes.now result heap.new }
+    ensures answer { Steps heap.old bytes.now result heap.new }
+    ensures keeps { Keeps heap.old heap.new }
 {
     let answer = reply(heap, bytes);
     heap.whole();
@@ -98,6 +105,9 @@ impl Session {
         requires { AreLimits limits }
         ensures stands { IfOk result (λ s. IfSome (F.told files.old) (λ store. IsAccepted (store image.now) limits × Stands s.heap (loaded_graph (store image.now)) (loaded_room (store image.now) limits))) }
         ensures begins { IfOk result (λ s. (s.script ≡ script.now) × (s.ended ≡ false)) }
+        ensures fresh { IfOk result (λ s. (s.heap.handles ≡ map.empty) × (s.heap.limits ≡ limits)) }
+        ensures unmarked { IfOk result (λ s. s.heap.phase ≡ Whole) }
+        ensures carried { IfOk result (λ s. IfSome (F.told files.old) (λ store. s.heap.carried ≡ take header_bytes (store image.now))) }
         ensures refused { IfErr result (λ e. IfSome (F.told files.old) (λ store. IsCauseOf (store image.now) limits e)) }
         ensures same { F.told files.new ≡ F.told files.old }
         ensures cause { LoadCause (F.read_count files.old) (F.read_count files.new) result }
@@ -131,7 +141,7 @@ impl Session {
     /// The answer to a line without its line feed, whether or not the session has ended; of a line of more than 1,024 bytes any first
     /// bytes do that are more than 1,024 too.
     pub(crate) fn answer(&mut self, bytes: &[u8]) -> Answer
-        ensures step { Steps self.old.heap bytes.now result self.new.heap }
+        ensures step { (told : Option FileBytes) → Advances self.old told bytes.now result self.new told }
         ensures run { SameRun self.old self.new }
     {
         step(&mut self.heap, bytes)
@@ -140,7 +150,7 @@ impl Session {
     /// The answer to a line without its line feed; of a line of more than 1,024 bytes any first bytes do that are more than 1,024 too.
     /// [`LineFault::Ended`] where the session has ended; then nothing changes.
     pub fn line<F: Files>(&mut self, files: &mut F, bytes: &[u8]) -> Result<Answer, LineFault>
-        ensures step { IfOk result (λ answer. (store : FileBytes) (text : Text) → StandsFor bytes.now text → Step (state_of self.old store) text answer (state_of self.new store)) }
+        ensures step { IfOk result (λ answer. Advances self.old (F.told files.old) bytes.now answer self.new (F.told files.new)) }
         ensures open { IfOk result (λ answer. self.old.ended ≡ false) }
         ensures fault { IfErr result (λ why. (why ≡ Ended) × (self.old.ended ≡ true)) }
         ensures same { OnErr result (self.new ≡ self.old) }

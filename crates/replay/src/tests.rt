@@ -11,6 +11,7 @@ pub(crate) const FIRST_ANSWERS: &str = "ok\nok\nobject 32 1\n";
 
 mod handles;
 mod images;
+mod kept;
 mod lines;
 mod options;
 mod sessions;
@@ -45,6 +46,22 @@ pub(crate) fn patch(
     Ok(())
 }
 
+/// The status of a run with these words, and the session that it kept.
+pub(crate) fn run_words(
+    alloc: Global,
+    words: &[&str],
+    files: &mut MemoryFiles,
+    out: &mut MemorySink,
+) -> Result<(Status, Option<Session>), Fail> {
+    let mut texts = Vec::new(alloc);
+    'words: for word in words {
+        texts.push(String::from_str(alloc, word)?)?;
+    }
+    let mut kept: Option<Session> = None;
+    let status = run(alloc, texts.as_slice(), files, out, &mut kept);
+    Ok((status, kept))
+}
+
 /// The status of a run with these words.
 pub(crate) fn status(
     alloc: Global,
@@ -52,12 +69,8 @@ pub(crate) fn status(
     files: &mut MemoryFiles,
     out: &mut MemorySink,
 ) -> Result<Status, Fail> {
-    let mut texts = Vec::new(alloc);
-    'words: for word in words {
-        texts.push(String::from_str(alloc, word)?)?;
-    }
-    let mut kept: Option<Session> = None;
-    Ok(run(alloc, texts.as_slice(), files, out, &mut kept))
+    let (status, _kept) = run_words(alloc, words, files, out)?;
+    Ok(status)
 }
 
 /// Asserts the status of a replay of these files, and what was put.

@@ -5,7 +5,7 @@ use Rattle.object_header.specs.Field.{field_of}
 use Rattle.spur_graph.specs.Bytes.{words_in}
 use Rattle.spur_graph.specs.ImageFile.{format, header_size, heap_bytes, base, special_word, last_hash, first_segment}
 use Rattle.spur_graph.specs.Segments.{Segment, segments, segment, chain, all_words, word_in, address_in, offset_in}
-use Rattle.spur_graph.specs.Chunks.{Chunk, chunks, chunks_from, chunk_of}
+use Rattle.object_header.specs.Chunks.{Chunk, chunks, chunks_from, chunk_of}
 use Rattle.spur_graph.specs.Cells.{There, cell_in, read_cell}
 use Rattle.spur_graph.specs.BaseImage.{base_image, base_header, base_words, base_word, nil}
 

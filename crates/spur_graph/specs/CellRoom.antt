@@ -5,7 +5,7 @@ use Rattle.std.specs.FinMap.{from_entries}
 use Rattle.std.specs.FinSet as sets
 use Rattle.spur_graph.specs.declared.limits.Limits.{Limits}
 use Rattle.spur_graph.specs.Room.{Room, Spot, Old}
-use Rattle.spur_graph.specs.Chunks.{Chunk}
+use Rattle.object_header.specs.Chunks.{Chunk}
 use Rattle.spur_graph.specs.Cells.{Store, is_start}
 use Rattle.spur_graph.specs.Ordinary.{is_ordinary, is_internal, is_nil_slot, body_at, page_places}
 
@@ -41,8 +41,8 @@ internal_chunks h cs = filter (λ (c : Chunk). is_start (h.cell c.start) && is_i
 abbrev pub spot_of : Chunk → Spot
 spot_of c = record { space = Old; words = c.size; overflow = nat_lt c.at c.start }
 
--- the room of a store of these chunks, so many words more behind it, eden and survivor spaces of these limits, which are empty, and these sizes of
--- free chunks
+-- the room of a store of these chunks, with so many words of old space in all, eden and survivor spaces of these limits, which are empty, and these sizes
+-- of free chunks
 unfoldable pub room_of : (ℕ → ℕ) → Store → List Chunk → ℕ → Limits → List ℕ → Room
 room_of name h cs words limits free = record {
   old_words = words;

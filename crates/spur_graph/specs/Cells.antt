@@ -7,7 +7,7 @@ use Rattle.object_header.specs.Fields.{Fields, fields_of}
 use Rattle.object_header.specs.Formats.{unit_bytes_of, unused_of, is_method, pointer_slots_of}
 use Rattle.object_header.specs.Head.{is_refused_format, literals_of, whole_units, has_literals}
 use Rattle.object_header.specs.declared.header.TheConstants.{FREE_CLASS, BRIDGE_CLASS, FORWARDER_CLASS}
-use Rattle.spur_graph.specs.Chunks.{Chunk, slots_of}
+use Rattle.object_header.specs.Chunks.{Chunk, slots_of}
 use Rattle.spur_graph.specs.Chains.{follow}
 
 -- an object as its words have it: all slots are words, no reference is followed and no unit is cut out. Mark, grey and remembered bits are no

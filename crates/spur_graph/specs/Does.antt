@@ -1,5 +1,5 @@
 -- What a command answers and how it changes the state, where nothing refuses it.
-use Rattle.std.specs.Prelude.{◌≡◌, ℕ, length, slice_index, slice_index_or, slice_set, Option, Some, None}
+use Rattle.std.specs.Prelude.{◌≡◌, ◌⊎◌, ℕ, length, slice_index, slice_index_or, slice_set, Option, Some, None}
 use Rattle.spur_graph.specs.declared.answer.Value.TheVariants.{Ref}
 use Rattle.spur_graph.specs.declared.answer.Value.TheVariants as values
 use Rattle.spur_graph.specs.declared.answer.Answer.{Answer}
@@ -18,7 +18,7 @@ Outcome = Answer × State
 abbrev pub ok : State → Outcome
 ok new = (answers.Done, new)
 
--- what a command answers and does where the state determines both
+-- what a command answers and does where the state determines both; a command that chooses among several has no outcome here, nor has one that is not served
 abbrev pub outcome : State → ℕ → Form → Option Outcome
 outcome s k (Special h) = Some (ok (bound s k h s.graph.special))
 outcome s k (Nil h) = Some (ok (bound s k h (Ref s.graph.nil)))
@@ -44,6 +44,10 @@ abbrev pub Is : Option Outcome → Answer → State → Type 0
 Is None answer new = ⊥
 Is (Some o) answer new = (answer ≡ o.0) × (new ≡ o.1)
 
--- what a command may answer, and the state that it may lead to
+-- the answers and states among which a command chooses, where the state leaves it a choice; no command that is served has one
+abbrev pub Chooses : State → ℕ → Form → Answer → State → Type 0
+Chooses old k form answer new = ⊥
+
+-- what a command may answer, and the state that it may lead to: the one that is determined, or one of those among which it chooses
 abbrev pub Does : State → ℕ → Form → Answer → State → Type 0
-Does old k form answer new = Is (outcome old k form) answer new
+Does old k form answer new = Is (outcome old k form) answer new ⊎ Chooses old k form answer new

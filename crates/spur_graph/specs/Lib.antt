@@ -5,7 +5,6 @@ pub mod Handles
 pub mod Names
 pub mod Room
 pub mod Segments
-pub mod Chunks
 pub mod Chains
 pub mod Cells
 pub mod Ordinary
@@ -14,6 +13,8 @@ pub mod Places
 pub mod FileStores
 pub mod ImageCauses
 pub mod CellRoom
+pub mod Spaces
+pub mod HeapRoom
 pub mod Heaps
 pub mod LoadedGraph
 pub mod Words

@@ -7,7 +7,7 @@ use Rattle.spur_graph.specs.ImageFile.{special_word, last_hash}
 use Rattle.spur_graph.specs.Graph.{Graph}
 use Rattle.spur_graph.specs.Room.{Room}
 use Rattle.spur_graph.specs.Segments.{segments, all_words, address_in, greatest_end}
-use Rattle.spur_graph.specs.Chunks.{chunks}
+use Rattle.object_header.specs.Chunks.{chunks}
 use Rattle.spur_graph.specs.CellGraph.{graph_of}
 use Rattle.spur_graph.specs.CellRoom.{room_of, room_sizes, free_sizes}
 use Rattle.spur_graph.specs.ImageCauses.{image_store}

@@ -1,5 +1,5 @@
 -- A step of the machine, and a run.
-use Rattle.std.specs.Prelude.{◌≡◌, ◌≤◌, ◌<◌, ℕ, List, [], ◌∷◌, length, Some, None}
+use Rattle.std.specs.Prelude.{◌≡◌, ◌≤◌, ◌<◌, ◌⊎◌, ℕ, List, [], ◌∷◌, length, Some, None}
 use Rattle.std.specs.FinMap.{get}
 use Rattle.std.specs.FinSet.{contains}
 use Rattle.spur_graph.specs.declared.answer.Answer.{Answer}
@@ -24,17 +24,21 @@ longest_line = 1024
 abbrev pub Reads : Text → ℕ → Form → Type 0
 Reads text k form = IsLine (words_of text) k form
 
--- this refuses the command
+-- what refuses a command while it is carried out, where none of its row did; no command that is served has such refusals
+abbrev pub RefusesLater : State → ℕ → Form → Refusal → Type 0
+RefusesLater s k form why = ⊥
+
+-- this refuses the command: the first of its row, or one that comes later
 abbrev pub Refuses : State → ℕ → Form → Refusal → Type 0
-Refuses s k form refusal = refused s k form ≡ Some refusal
+Refuses s k form why = (refused s k form ≡ Some why) ⊎ ((refused s k form ≡ None) × RefusesLater s k form why)
 
 -- nothing refuses the command
 abbrev pub Passes : State → ℕ → Form → Type 0
-Passes s k form = refused s k form ≡ None
+Passes s k form = (refused s k form ≡ None) × ((why : Refusal) → RefusesLater s k form why → ⊥)
 
--- a refusal changes nothing
-abbrev pub Leaves : State → ℕ → Form → State → Type 0
-Leaves old k form new = new ≡ old
+-- a command that is refused for this reason may leave this state: the one before it
+abbrev pub Leaves : State → ℕ → Form → Refusal → State → Type 0
+Leaves old k form why new = new ≡ old
 
 -- both rooms are one, under these names
 pub record SameRoom (R S : Room) (p : ℕ → ℕ) : Type 0 where
@@ -56,7 +60,7 @@ pub record Renamed (s t : State) : Type 0 where
 pub data Answers (old : State) (text : Text) : Answer → State → Type 0 where
   long : longest_line < length text → Answers old text (answers.Refused r.Long) old
   syntax : length text ≤ longest_line → ((k : ℕ) (form : Form) → Reads text k form → ⊥) → Answers old text (answers.Refused r.Syntax) old
-  refusal : {new : State} (k : ℕ) (form : Form) (why : Refusal) → length text ≤ longest_line → Reads text k form → Refuses old k form why → Leaves old k form new → Answers old text (answers.Refused why) new
+  refusal : {new : State} (k : ℕ) (form : Form) (why : Refusal) → length text ≤ longest_line → Reads text k form → Refuses old k form why → Leaves old k form why new → Answers old text (answers.Refused why) new
   done : {new : State} {answer : Answer} (k : ℕ) (form : Form) → length text ≤ longest_line → Reads text k form → Passes old k form → Does old k form answer new → Answers old text answer new
 
 -- a step answers a line, and names are free

@@ -4,7 +4,7 @@ use Rattle.std.specs.Prelude.{OnOk, OnErr, IfSome}
 use Rattle.std.specs.FinMap.{FinMap, get, insert, remove}
 use Rattle.spur_graph.specs.Graph.{Handle, handle_cmp}
 use Rattle.spur_graph.specs.Ordinary.{is_good_word}
-use Rattle.spur_graph.specs.Heaps.{View, heap_store}
+use Rattle.spur_graph.specs.Heaps.{View, store_of}
 use Rattle.handle_table.proofs.Bound.{bound_or_before, before_removed}
 use Rattle.spur_heap.specs.declared.heap.HeapParts.{HeapParts}
 use Rattle.spur_heap.specs.Parts.{view_of, ArePartsOfHeap}
@@ -12,29 +12,32 @@ use Rattle.spur_heap.specs.Views.{IsGood}
 
 -- the words of all handles are good
 abbrev AreGood : HeapParts → FinMap handle_cmp ℕ → Type 0
-AreGood p m = (h : Handle) (word : ℕ) → get m h ≡ Some word → is_good_word (heap_store p.region) word ≡ true
+AreGood p m = (h : Handle) (word : ℕ) → get m h ≡ Some word → is_good_word (store_of (view_of p)) word ≡ true
 
 module _ (p : HeapParts) (k : ArePartsOfHeap p) where
   with_handles : (m : FinMap handle_cmp ℕ) → AreGood p m → ArePartsOfHeap (record p { handles = m })
   with_handles m good = record {
     whole = record {
-      cut = k.whole.cut;
+      spaces = k.whole.spaces;
+      rows = k.whole.rows;
       sound = k.whole.sound;
-      clear = k.whole.clear;
+      inner = k.whole.inner;
+      young = k.whole.young;
+      bits = k.whole.bits;
+      remembered = k.whole.remembered;
       held = good;
       special_there = k.whole.special_there;
+      mourners = k.whole.mourners;
       state_bits = k.whole.state_bits;
       header = k.whole.header;
       few = k.whole.few;
     };
-    map = k.map;
-    covers = k.covers;
-    old = k.old;
+    map = record { starts = k.map.starts; covers = k.map.covers };
   }
 
   good_bound : (h : Handle) (word : ℕ) → IsGood (view_of p) word → AreGood p (insert p.handles h word)
   good_bound h word good q v e = elim (bound_or_before p.handles h q word v e) [
-    | inl same ↦ ap (is_good_word (heap_store p.region)) same ∙ good
+    | inl same ↦ ap (is_good_word (store_of (view_of p))) same ∙ good
     | inr before ↦ k.whole.held q v before
   ]
 

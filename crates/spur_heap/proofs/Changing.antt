@@ -1,101 +1,106 @@
 -- A store and the same with other words in one ordinary object: what they have in common.
-use Rattle.std.proofs.Common.{◌≡◌, ◌≢◌, ℕ, true, false, cond, not, ◌&&◌, ◌||◌, ◌/◌, ◌%◌, ◌<◌, eqb, ltb, List, length, get_or, refl, sym, ap, ◌∙◌, arith, inl, inr}
+use Rattle.std.proofs.Common.{◌≡◌, ◌≢◌, ℕ, true, false, not, ◌&&◌, ◌||◌, ◌/◌, ◌%◌, ◌<◌, eqb, ltb, List, map, length, get_or, refl, sym, ap, ◌∙◌, subst, arith, inl, inr}
 use Rattle.std.proofs.lemmas.Bool.{false≢true, cases_Bool, cases_eq, eq-eqb, ne_eqb, ltb-true, and_parts, and_left, and_right, or_right, not-false, not-true, not_from_true}
 use Rattle.std.specs.Option.{unwrap_or, option_map}
 use Rattle.spur_graph.specs.Value.{is_immediate_word}
 use Rattle.spur_graph.specs.Cells.{Body, Cell, Moved, There, Store, is_start, is_moved, is_there, target_of, body_of, is_formed, pointer_count, first, final, lead, any_below}
 use Rattle.spur_graph.specs.Ordinary.{page_places, page_entries, class_limit, is_at, passes, body_at, root_slot, tells, is_nil_slot, is_first, is_page, is_internal, is_ordinary, is_good_reference, is_good_word, is_bad_forwarder, is_bad_page, is_bad_slot, has_page, page_of, entry, has_entry, is_no_index, is_entered, is_bad_entry}
 use Rattle.spur_graph.specs.CellGraph.{has_class}
-use Rattle.spur_graph.specs.Heaps.{IsSound, HasRoots}
+use Rattle.spur_graph.specs.Graph.{AreApart}
+use Rattle.spur_graph.specs.Heaps.{IsSound, HasRoots, HasFired, AreMourners, waiting_in}
 use Rattle.heap_cells.proofs.Chains.{follow-same}
 use Rattle.heap_cells.proofs.Below.{any_below-has, and-same}
-use Rattle.heap_cells.proofs.Bodies.{IsLike, with_words, pointer_count-same, is_formed-same}
+use Rattle.heap_cells.proofs.Bodies.{IsLike, pointer_count-like, is_formed-like}
 use Rattle.heap_cells.proofs.Internals.{IsPageAt, a_page, not_first}
 use Rattle.heap_cells.proofs.References.{ordinary_apart}
 use Rattle.heap_cells.proofs.Entries.{place_below}
+use Rattle.spur_heap.proofs.OneCell.{with_cell, cell_here, cell_other}
 
 -- the store with this object at one start
 abbrev pub changed : Store → ℕ → Body → Store
-changed h s b = record h { cell = λ t. cond (eqb t s) (There b) (h.cell t) }
+changed h s b = with_cell h s (There b)
 
--- an ordinary object of a sound store, and words for it, as many as before
-pub record Change (old : Store) (s : ℕ) (b : Body) (ws : List ℕ) : Type 0 where
+-- an ordinary object of a sound store, and what is to stand in its place: of the same class, hash and format, with as many words. Flags may differ
+pub record Change (old : Store) (s : ℕ) (b b' : Body) : Type 0 where
   pub sound : IsSound old
   pub there : old.cell s ≡ There b
   pub ordinary : is_ordinary old s ≡ true
-  pub like : IsLike b ws
-  pub slots : (i : ℕ) → i < pointer_count b → is_good_word old (get_or ws i 0) ≡ true
+  pub class : b'.class ≡ b.class
+  pub hash : b'.hash ≡ b.hash
+  pub format : b'.format ≡ b.format
+  pub like : IsLike b b'.words
+  pub slots : (i : ℕ) → i < pointer_count b → is_good_word old (get_or b'.words i 0) ≡ true
 
-module _ {old : Store} {s : ℕ} {b : Body} {ws : List ℕ} (k : Change old s b ws) where
-  pub cell-here : (changed old s (with_words b ws)).cell s ≡ There (with_words b ws)
-  cell-here = ap (λ x. cond x (There (with_words b ws)) (old.cell s)) (eq-eqb s s refl)
+module _ {old : Store} {s : ℕ} {b : Body} {b' : Body} (k : Change old s b b') where
+  pub cell-here : (changed old s b').cell s ≡ There b'
+  cell-here = cell_here old s (There b')
 
-  pub cell-other : (t : ℕ) → t ≢ s → (changed old s (with_words b ws)).cell t ≡ old.cell t
-  cell-other t n = ap (λ x. cond x (There (with_words b ws)) (old.cell t)) (ne_eqb t s n)
+  pub cell-other : (t : ℕ) → t ≢ s → (changed old s b').cell t ≡ old.cell t
+  cell-other = cell_other old s (There b')
 
   -- what is the same of both objects is the same of all cells
-  pub kept : {X : Type 0} (f : Cell → X) → f (There (with_words b ws)) ≡ f (There b) → (t : ℕ) → f ((changed old s (with_words b ws)).cell t) ≡ f (old.cell t)
+  pub kept : {X : Type 0} (f : Cell → X) → f (There b') ≡ f (There b) → (t : ℕ) → f ((changed old s b').cell t) ≡ f (old.cell t)
   kept f e t = elim (cases_eq t s) [
-    | inl is ↦ ap (λ u. f ((changed old s (with_words b ws)).cell u)) is ∙ ap f cell-here ∙ e ∙ sym (ap f k.there) ∙ ap (λ u. f (old.cell u)) (sym is)
+    | inl is ↦ ap (λ u. f ((changed old s b').cell u)) is ∙ ap f cell-here ∙ e ∙ sym (ap f k.there) ∙ ap (λ u. f (old.cell u)) (sym is)
     | inr n ↦ ap f (cell-other t n)
   ]
 
-  pub moved-same : (t : ℕ) → is_moved ((changed old s (with_words b ws)).cell t) ≡ is_moved (old.cell t)
+  pub moved-same : (t : ℕ) → is_moved ((changed old s b').cell t) ≡ is_moved (old.cell t)
   moved-same = kept is_moved refl
 
-  pub there-same : (t : ℕ) → is_there ((changed old s (with_words b ws)).cell t) ≡ is_there (old.cell t)
+  pub there-same : (t : ℕ) → is_there ((changed old s b').cell t) ≡ is_there (old.cell t)
   there-same = kept is_there refl
 
-  pub start-same : (t : ℕ) → is_start ((changed old s (with_words b ws)).cell t) ≡ is_start (old.cell t)
+  pub start-same : (t : ℕ) → is_start ((changed old s b').cell t) ≡ is_start (old.cell t)
   start-same = kept is_start refl
 
-  pub format-same : (t : ℕ) → (body_at (changed old s (with_words b ws)) t).format ≡ (body_at old t).format
-  format-same = kept (λ c. (body_of c).format) refl
+  pub format-same : (t : ℕ) → (body_at (changed old s b') t).format ≡ (body_at old t).format
+  format-same = kept (λ c. (body_of c).format) k.format
 
-  pub length-same : (t : ℕ) → length (body_at (changed old s (with_words b ws)) t).words ≡ length (body_at old t).words
+  pub length-same : (t : ℕ) → length (body_at (changed old s b') t).words ≡ length (body_at old t).words
   length-same = kept (λ c. length (body_of c).words) k.like.long
 
-  pub final-same : (t : ℕ) → final (changed old s (with_words b ws)) t ≡ final old t
+  pub final-same : (t : ℕ) → final (changed old s b') t ≡ final old t
   unfolding final
-  final-same t = follow-same (λ u. is_moved ((changed old s (with_words b ws)).cell u)) (λ u. is_moved (old.cell u)) (λ u. target_of ((changed old s (with_words b ws)).cell u)) (λ u. target_of (old.cell u)) moved-same (kept target_of refl) old.names t
+  final-same t = follow-same (λ u. is_moved ((changed old s b').cell u)) (λ u. is_moved (old.cell u)) (λ u. target_of ((changed old s b').cell u)) (λ u. target_of (old.cell u)) moved-same (kept target_of refl) old.names t
 
-  pub lead-same : (w : ℕ) → lead (changed old s (with_words b ws)) w ≡ lead old w
+  pub lead-same : (w : ℕ) → lead (changed old s b') w ≡ lead old w
   lead-same w = λ x. option_map (λ t. final-same t x) (old.to w)
 
   -- ---- the hidden roots are another object
 
-  pub root-same : (i : ℕ) → root_slot (changed old s (with_words b ws)) i ≡ root_slot old i
+  pub root-same : (i : ℕ) → root_slot (changed old s b') i ≡ root_slot old i
   root-same i = ap (λ c. get_or (body_of c).words i 0) (cell-other (first old 4) (λ e. (ordinary_apart old s k.ordinary).0 (sym e)))
 
-  pub tells-same : (i t : ℕ) → tells (changed old s (with_words b ws)) i t ≡ tells old i t
+  pub tells-same : (i t : ℕ) → tells (changed old s b') i t ≡ tells old i t
   tells-same i t = ap (λ w. is_at t (old.to w)) (root-same i)
 
-  pub nil_slot-same : (i : ℕ) → is_nil_slot (changed old s (with_words b ws)) i ≡ is_nil_slot old i
+  pub nil_slot-same : (i : ℕ) → is_nil_slot (changed old s b') i ≡ is_nil_slot old i
   nil_slot-same i = tells-same i (first old 0)
 
-  pub internal-same : (t : ℕ) → is_internal (changed old s (with_words b ws)) t ≡ is_internal old t
+  pub internal-same : (t : ℕ) → is_internal (changed old s b') t ≡ is_internal old t
   unfolding is_internal
   internal-same t = λ x. eqb t (first old 3) || eqb t (first old 4) || (not (eqb t (first old 0)) && any_below (λ i. tells-same i t x) page_places)
 
-  pub ordinary-same : (t : ℕ) → is_ordinary (changed old s (with_words b ws)) t ≡ is_ordinary old t
+  pub ordinary-same : (t : ℕ) → is_ordinary (changed old s b') t ≡ is_ordinary old t
   ordinary-same t = λ x. there-same t x && not (internal-same t x)
 
-  pub reference-same : (w : ℕ) → is_good_reference (changed old s (with_words b ws)) w ≡ is_good_reference old w
+  pub reference-same : (w : ℕ) → is_good_reference (changed old s b') w ≡ is_good_reference old w
   reference-same w = λ x. passes (λ t. ordinary-same t x) (lead-same w x)
 
-  pub good-same : (w : ℕ) → is_good_word (changed old s (with_words b ws)) w ≡ is_good_word old w
+  pub good-same : (w : ℕ) → is_good_word (changed old s b') w ≡ is_good_word old w
   good-same w = λ x. is_immediate_word w || reference-same w x
 
-  page-same : (i : ℕ) → is_page (changed old s (with_words b ws)) i ≡ is_page old i
+  page-same : (i : ℕ) → is_page (changed old s b') i ≡ is_page old i
   unfolding is_page
   page-same i = λ x. passes (λ t. there-same t x && (eqb (format-same t x) 2 && eqb (length-same t x) page_entries) && not (is_first old t) && not (any_below (λ j. tells-same j t x) i)) (old.to (root-same i x))
 
-  bad_page-same : (i : ℕ) → is_bad_page (changed old s (with_words b ws)) i ≡ is_bad_page old i
+  bad_page-same : (i : ℕ) → is_bad_page (changed old s b') i ≡ is_bad_page old i
   bad_page-same i = λ x. not (nil_slot-same i x) && not (page-same i x)
 
   -- ---- so are the pages
 
-  pub has_page-same : (i : ℕ) → has_page (changed old s (with_words b ws)) i ≡ has_page old i
+  pub has_page-same : (i : ℕ) → has_page (changed old s b') i ≡ has_page old i
   has_page-same i = λ x. ltb i class_limit && not (nil_slot-same (i / page_entries) x)
 
   -- a page is internal
@@ -109,7 +114,7 @@ module _ {old : Store} {s : ℕ} {b : Body} {ws : List ℕ} (k : Change old s b 
       let off : is_internal old s ≡ false = not-true _ (and_parts (is_there (old.cell s)) (not (is_internal old s)) k.ordinary).1 in
       false≢true (sym off ∙ ap (is_internal old) (sym e) ∙ inside)
 
-  pub entry-same : (i : ℕ) → has_page old i ≡ true → entry (changed old s (with_words b ws)) i ≡ entry old i
+  pub entry-same : (i : ℕ) → has_page old i ≡ true → entry (changed old s b') i ≡ entry old i
   entry-same i e =
       let parts = and_parts (ltb i class_limit) (not (is_nil_slot old (i / page_entries))) e in
       let l = place_below i (ltb-true i class_limit parts.0) in
@@ -117,56 +122,56 @@ module _ {old : Store} {s : ℕ} {b : Body} {ws : List ℕ} (k : Change old s b 
       let p = a_page old (i / page_entries) page in
       let is : page_of old i ≡ p.0 = ap (λ o. unwrap_or o old.names) p.1.named in
       let other : page_of old i ≢ s = λ same. page_apart (i / page_entries) l p.0 p.1 (sym is ∙ same) in
-      ap (λ w. get_or (body_at (changed old s (with_words b ws)) (unwrap_or (old.to w) old.names)).words (i % page_entries) 0) (root-same (i / page_entries))
+      ap (λ w. get_or (body_at (changed old s b') (unwrap_or (old.to w) old.names)).words (i % page_entries) 0) (root-same (i / page_entries))
       ∙ ap (λ c. get_or (body_of c).words (i % page_entries) 0) (cell-other (page_of old i) other)
 
-  pub entry_lead-same : (i : ℕ) → has_page old i ≡ true → lead (changed old s (with_words b ws)) (entry (changed old s (with_words b ws)) i) ≡ lead old (entry old i)
-  entry_lead-same i e = ap (lead (changed old s (with_words b ws))) (entry-same i e) ∙ lead-same (entry old i)
+  pub entry_lead-same : (i : ℕ) → has_page old i ≡ true → lead (changed old s b') (entry (changed old s b') i) ≡ lead old (entry old i)
+  entry_lead-same i e = ap (lead (changed old s b')) (entry-same i e) ∙ lead-same (entry old i)
 
-  has_entry-same : (i t : ℕ) → has_entry (changed old s (with_words b ws)) i t ≡ has_entry old i t
-  has_entry-same i t = and-same (has_page (changed old s (with_words b ws)) i) (has_page old i) (is_at t (lead (changed old s (with_words b ws)) (entry (changed old s (with_words b ws)) i))) (is_at t (lead old (entry old i))) (has_page-same i) (λ e. ap (is_at t) (entry_lead-same i e))
+  has_entry-same : (i t : ℕ) → has_entry (changed old s b') i t ≡ has_entry old i t
+  has_entry-same i t = and-same (has_page (changed old s b') i) (has_page old i) (is_at t (lead (changed old s b') (entry (changed old s b') i))) (is_at t (lead old (entry old i))) (has_page-same i) (λ e. ap (is_at t) (entry_lead-same i e))
 
-  entered-same : (t : ℕ) → is_entered (changed old s (with_words b ws)) t ≡ is_entered old t
+  entered-same : (t : ℕ) → is_entered (changed old s b') t ≡ is_entered old t
   unfolding is_entered
   entered-same t =
-      let hash : (body_at (changed old s (with_words b ws)) t).hash ≡ (body_at old t).hash = kept (λ c. (body_of c).hash) refl t in
-      let has : has_entry (changed old s (with_words b ws)) (body_at (changed old s (with_words b ws)) t).hash t ≡ has_entry old (body_at old t).hash t = ap (λ n. has_entry (changed old s (with_words b ws)) n t) hash ∙ has_entry-same (body_at old t).hash t in
+      let hash : (body_at (changed old s b') t).hash ≡ (body_at old t).hash = kept (λ c. (body_of c).hash) k.hash t in
+      let has : has_entry (changed old s b') (body_at (changed old s b') t).hash t ≡ has_entry old (body_at old t).hash t = ap (λ n. has_entry (changed old s b') n t) hash ∙ has_entry-same (body_at old t).hash t in
       λ x. ordinary-same t x && not (is_no_index (hash x)) && has x
 
-  bad_entry-same : (i : ℕ) → is_bad_entry (changed old s (with_words b ws)) i ≡ is_bad_entry old i
-  bad_entry-same i = and-same (has_page (changed old s (with_words b ws)) i) (has_page old i) (not (passes (λ t. eqb t (first old 0) || (not (eqb i 0) && is_entered (changed old s (with_words b ws)) t)) (lead (changed old s (with_words b ws)) (entry (changed old s (with_words b ws)) i)))) (not (passes (λ t. eqb t (first old 0) || (not (eqb i 0) && is_entered old t)) (lead old (entry old i)))) (has_page-same i)
+  bad_entry-same : (i : ℕ) → is_bad_entry (changed old s b') i ≡ is_bad_entry old i
+  bad_entry-same i = and-same (has_page (changed old s b') i) (has_page old i) (not (passes (λ t. eqb t (first old 0) || (not (eqb i 0) && is_entered (changed old s b') t)) (lead (changed old s b') (entry (changed old s b') i)))) (not (passes (λ t. eqb t (first old 0) || (not (eqb i 0) && is_entered old t)) (lead old (entry old i)))) (has_page-same i)
       (λ e x. not (passes (λ t. eqb t (first old 0) || (not (eqb i 0) && entered-same t x)) (entry_lead-same i e x)))
 
-  pub has_class-same : (i : ℕ) → has_class (changed old s (with_words b ws)) i ≡ has_class old i
-  has_class-same i = and-same (has_page (changed old s (with_words b ws)) i) (has_page old i) (not (is_at (first old 0) (lead (changed old s (with_words b ws)) (entry (changed old s (with_words b ws)) i)))) (not (is_at (first old 0) (lead old (entry old i)))) (has_page-same i)
+  pub has_class-same : (i : ℕ) → has_class (changed old s b') i ≡ has_class old i
+  has_class-same i = and-same (has_page (changed old s b') i) (has_page old i) (not (is_at (first old 0) (lead (changed old s b') (entry (changed old s b') i)))) (not (is_at (first old 0) (lead old (entry old i)))) (has_page-same i)
       (λ e x. not (is_at (first old 0) (entry_lead-same i e x)))
 
   -- ---- the store is sound as before
 
-  targets : (t u : ℕ) → (changed old s (with_words b ws)).cell t ≡ Moved u → is_start ((changed old s (with_words b ws)).cell u) ≡ true
+  targets : (t u : ℕ) → (changed old s b').cell t ≡ Moved u → is_start ((changed old s b').cell u) ≡ true
   targets t u e = elim (cases_eq t s) [
-    | inl is ↦ absurd (false≢true (ap is_moved (sym cell-here ∙ ap (λ v. (changed old s (with_words b ws)).cell v) (sym is) ∙ e)))
+    | inl is ↦ absurd (false≢true (ap is_moved (sym cell-here ∙ ap (λ v. (changed old s b').cell v) (sym is) ∙ e)))
     | inr n ↦ start-same u ∙ k.sound.targets t u (sym (cell-other t n) ∙ e)
   ]
 
-  ends : (t : ℕ) → is_bad_forwarder (changed old s (with_words b ws)) t ≡ false
+  ends : (t : ℕ) → is_bad_forwarder (changed old s b') t ≡ false
   ends t =
-      let there : is_there ((changed old s (with_words b ws)).cell (final (changed old s (with_words b ws)) t)) ≡ is_there (old.cell (final old t)) = ap (λ u. is_there ((changed old s (with_words b ws)).cell u)) (final-same t) ∙ there-same (final old t) in
+      let there : is_there ((changed old s b').cell (final (changed old s b') t)) ≡ is_there (old.cell (final old t)) = ap (λ u. is_there ((changed old s b').cell u)) (final-same t) ∙ there-same (final old t) in
       (λ x. moved-same t x && not (there x)) ∙ k.sound.ends t
 
-  slots : (t i : ℕ) → is_bad_slot (changed old s (with_words b ws)) t i ≡ false
+  slots : (t i : ℕ) → is_bad_slot (changed old s b') t i ≡ false
   slots t i = elim (cases_eq t s) [
     | inr n ↦ (λ x. ordinary-same t x && ltb i (pointer_count (body_of (cell-other t n x))) && not (good-same (get_or (body_of (cell-other t n x)).words i 0) x)) ∙ k.sound.slots t i
-    | inl is ↦ ap (λ u. is_bad_slot (changed old s (with_words b ws)) u i) is ∙ elim (cases_Bool (ltb i (pointer_count (body_at (changed old s (with_words b ws)) s)))) [
+    | inl is ↦ ap (λ u. is_bad_slot (changed old s b') u i) is ∙ elim (cases_Bool (ltb i (pointer_count (body_at (changed old s b') s)))) [
       | inr off ↦ and_left _ _ (and_right _ _ off)
       | inl on ↦
-          let count : pointer_count (body_at (changed old s (with_words b ws)) s) ≡ pointer_count b = ap (λ c. pointer_count (body_of c)) cell-here ∙ pointer_count-same b ws k.like in
-          let low : i < pointer_count b = omega (arith, ltb-true i (pointer_count (body_at (changed old s (with_words b ws)) s)) on, count) in
-          and_right _ _ (not_from_true _ (ap (λ c. is_good_word (changed old s (with_words b ws)) (get_or (body_of c).words i 0)) cell-here ∙ good-same (get_or ws i 0) ∙ k.slots i low))
+          let count : pointer_count (body_at (changed old s b') s) ≡ pointer_count b = ap (λ c. pointer_count (body_of c)) cell-here ∙ pointer_count-like b b' k.format k.like in
+          let low : i < pointer_count b = omega (arith, ltb-true i (pointer_count (body_at (changed old s b') s)) on, count) in
+          and_right _ _ (not_from_true _ (ap (λ c. is_good_word (changed old s b') (get_or (body_of c).words i 0)) cell-here ∙ good-same (get_or b'.words i 0) ∙ k.slots i low))
     ]
   ]
 
-  roots : HasRoots (changed old s (with_words b ws))
+  roots : HasRoots (changed old s b')
   roots = record {
     five = k.sound.roots.five;
     objects = λ j l. there-same (first old j) ∙ k.sound.roots.objects j l;
@@ -178,11 +183,26 @@ module _ {old : Store} {s : ℕ} {b : Body} {ws : List ℕ} (k : Change old s b 
     entries = λ i. bad_entry-same i ∙ k.sound.roots.entries i;
   }
 
-  pub sound_changed : IsSound (changed old s (with_words b ws))
+  pub sound_changed : IsSound (changed old s b')
   sound_changed = record {
-    formed = λ t e. kept (λ c. is_formed (body_of c)) (is_formed-same b ws k.like) t ∙ k.sound.formed t (sym (there-same t) ∙ e);
+    formed = λ t e. kept (λ c. is_formed (body_of c)) (is_formed-like b b' k.class k.format k.like) t ∙ k.sound.formed t (sym (there-same t) ∙ e);
     targets = targets;
     ends = ends;
     roots = roots;
     slots = slots;
+  }
+
+  -- ---- what else the invariant says of cells
+
+  fired_kept : (t : ℕ) → HasFired old t → HasFired (changed old s b') t
+  fired_kept t f = record {
+    ordinary = (λ x. ordinary-same (final-same t x) x) ∙ f.ordinary;
+    format = ap (λ u. (body_at (changed old s b') u).format) (final-same t) ∙ format-same (final old t) ∙ f.format;
+  }
+
+  pub mourners_kept : (groups : List (List ℕ)) → AreMourners old groups → AreMourners (changed old s b') groups
+  mourners_kept groups m = record {
+    some = m.some;
+    fired = λ i d l. fired_kept (get_or (waiting_in groups) i d) (m.fired i d l);
+    apart = subst (λ (ts : List ℕ). AreApart ts) (λ x. map (λ t. sym (final-same t) x) (waiting_in groups)) m.apart;
   }

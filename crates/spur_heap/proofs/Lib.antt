@@ -1,8 +1,10 @@
+pub mod Orders
 pub mod Hops
 pub mod Following
 pub mod Walking
 pub mod Pages
 pub mod Bindings
+pub mod OneCell
 pub mod Changing
 pub mod Graphs
 pub mod Sizes
@@ -11,3 +13,8 @@ pub mod Written
 pub mod Nodes
 pub mod SlotCounts
 pub mod Puts
+pub mod RememberedBit
+pub mod Storing
+pub mod Touched
+pub mod Grown
+pub mod Taken

@@ -1,161 +1,183 @@
 -- What is read of an ordinary object of a heap, and what a write to one of its slots or units leaves.
 use Rattle.std.proofs.Common.{◌≡◌, ℕ, true, ◌+◌, ◌*◌, ◌/◌, ◌%◌, ◌^◌, ◌<◌, List, length, get_or, set, sym, ap, ◌∙◌, subst, arith}
 use Rattle.std.proofs.lemmas.Bool.{lt-ltb}
+use Rattle.object_header.specs.Chunks.{slots_from}
 use Rattle.object_header.specs.Field.{field_of, with_field}
 use Rattle.object_header.specs.Fields.{fields_of}
 use Rattle.object_header.specs.Formats.{is_method, unit_bytes_of}
 use Rattle.spur_graph.specs.declared.answer.Value.{Value}
-use Rattle.spur_graph.specs.Node.{Node}
 use Rattle.spur_graph.specs.Graph.{with_node}
 use Rattle.spur_graph.specs.Cells.{body_from, pointer_count, unit_count}
 use Rattle.spur_graph.specs.CellGraph.{node_of}
-use Rattle.spur_graph.specs.Heaps.{View, IsWhole, heap_store, heap_value, heap_graph, heap_room, own_name}
-use Rattle.heap_cells.specs.Rows.{slots_from}
+use Rattle.spur_graph.specs.Heaps.{View, IsWhole, store_of, heap_value, heap_graph, heap_room, own_name}
+use Rattle.spur_graph.specs.Ordinary.{is_ordinary}
 use Rattle.heap_cells.proofs.Bodies.{method_some}
 use Rattle.heap_cells.proofs.References.{ordinary_there}
 use Rattle.heap_cells.proofs.ObjectReads.{object-body, object-word, object-inside}
 use Rattle.spur_heap.specs.declared.heap.HeapParts.{HeapParts}
 use Rattle.spur_heap.specs.Parts.{view_of, ArePartsOfHeap}
+use Rattle.spur_heap.specs.Remembering.{after}
+use Rattle.spur_heap.proofs.Orders.{order}
 use Rattle.spur_heap.specs.Sizes.{IsSize}
-use Rattle.spur_heap.specs.Words.{AreSound, is_object, is_good, body_in, unit_bytes_in, unit_place, unit_word}
+use Rattle.spur_heap.specs.Words.{AreSound, starts_at, is_object, is_good, body_in, unit_bytes_in, unit_place, unit_word}
 use Rattle.spur_heap.specs.Views.{IsOrdinary, IsGood, node_in}
 use Rattle.spur_heap.proofs.UnitRows.{UnitAt}
 use Rattle.spur_heap.proofs.SlotCounts.{at_start, formed, pointers_within, unit_at_place}
 use Rattle.spur_heap.proofs.Nodes.{HasFields, node_fields, node_units, node_unit, node_pointers, node_pointer, node_with_pointer, node_with_unit}
-use Rattle.spur_heap.proofs.Written.{Write, body_then, starts_kept, reference_kept, good_kept, sound_kept, clear_kept, graph_written, room_kept, same_length, slot_good, like}
+use Rattle.spur_heap.proofs.Written.{Write, HasBitFor, body_then, then, whole_written, starts_kept, ordinary_kept, good_kept, value_kept, graph_written, room_kept, slot_good, like}
 
-pub whole_sound : (v : View) → IsWhole v → AreSound v.words
-whole_sound v whole = record { cut = whole.cut; sound = whole.sound; few = whole.few }
+pub whole_sound : (v : View) → IsWhole v → AreSound v
+whole_sound v whole = record { spaces = whole.spaces; rows = whole.rows; sound = whole.sound; few = whole.few }
 
 -- ---- reading
 
 module _ (v : View) (whole : IsWhole v) (s : ℕ) (there : IsOrdinary v s) where
-  pub object : is_object v.words s ≡ true
-  object = ordinary_there (heap_store v.words) s there
+  pub object : is_object v s ≡ true
+  object = ordinary_there (store_of v) s there
 
-  words_sound : AreSound v.words
+  words_sound : AreSound v
   words_sound = whole_sound v whole
 
-  pub fields_are : HasFields (node_in v s) (body_in v.words s)
-  fields_are = node_fields (heap_store v.words) (body_in v.words s)
+  pub fields_are : HasFields (node_in v s) (body_in v s)
+  fields_are = node_fields (store_of v) (body_in v s)
 
-  pub body_is : body_in v.words s ≡ body_from (fields_of (get_or v.words s 0)) (slots_from v.words s)
-  body_is = object-body _ v.words _ words_sound.cut s object
+  pub body_is : body_in v s ≡ body_from (fields_of (get_or v.words s 0)) (slots_from v.words s)
+  body_is = object-body _ v.words _ (order v words_sound) s object
 
   pub start_inside : s + 1 < length v.words
-  start_inside = (at_start v.words words_sound s object).below
+  start_inside = (at_start v words_sound s object).below
 
-  pub pointers_count : length (node_in v s).pointers ≡ pointer_count (body_in v.words s)
-  pointers_count = node_pointers (heap_store v.words) (body_in v.words s) (formed v.words words_sound s object)
+  pub pointers_count : length (node_in v s).pointers ≡ pointer_count (body_in v s)
+  pointers_count = node_pointers (store_of v) (body_in v s) (formed v words_sound s object)
 
-  pub units_count : length (node_in v s).units ≡ unit_count (body_in v.words s)
-  units_count = node_units (heap_store v.words) (body_in v.words s)
+  pub units_count : length (node_in v s).units ≡ unit_count (body_in v s)
+  units_count = node_units (store_of v) (body_in v s)
 
   module _ (i : ℕ) (within : i < length (node_in v s).pointers) where
-    low : i < pointer_count (body_in v.words s)
+    low : i < pointer_count (body_in v s)
     low = omega (arith, within, pointers_count)
 
-    pub slot_inside : i < length (body_in v.words s).words
-    slot_inside = omega (arith, low, pointers_within v.words words_sound s object)
+    pub slot_inside : i < length (body_in v s).words
+    slot_inside = omega (arith, low, pointers_within v words_sound s object)
 
     pub pointer_inside : s + 1 + i < length v.words
-    pointer_inside = object-inside _ v.words _ words_sound.cut s object i slot_inside
+    pointer_inside = object-inside _ v.words _ (order v words_sound) s object i slot_inside
 
-    pub pointer_value : (d : Value) → heap_value v.words (get_or v.words (s + 1 + i) 0) ≡ get_or (node_in v s).pointers i d
+    pub pointer_value : (d : Value) → heap_value v (get_or v.words (s + 1 + i) 0) ≡ get_or (node_in v s).pointers i d
     pointer_value d =
-        ap (heap_value v.words) (sym (object-word _ v.words _ words_sound.cut s object i slot_inside))
-        ∙ sym (node_pointer (heap_store v.words) (body_in v.words s) (formed v.words words_sound s object) i d low)
+        ap (heap_value v) (sym (object-word _ v.words _ (order v words_sound) s object i slot_inside))
+        ∙ sym (node_pointer (store_of v) (body_in v s) (formed v words_sound s object) i d low)
 
     pub pointer_good : IsGood v (get_or v.words (s + 1 + i) 0)
-    pointer_good = ap (is_good v.words) (sym (object-word _ v.words _ words_sound.cut s object i slot_inside)) ∙ slot_good v.words words_sound s there i low
+    pointer_good = ap (is_good v) (sym (object-word _ v.words _ (order v words_sound) s object i slot_inside)) ∙ slot_good v words_sound s there i low
 
-    pub pointer_write : (w : ℕ) → (is_method (node_in v s).format ≡ true → 0 < i) → IsGood v w → Write v.words s i w
+    pub pointer_write : (w : ℕ) → (is_method (node_in v s).format ≡ true → 0 < i) → IsGood v w → Write v s i w
     pointer_write w literals good = record {
       sound = words_sound;
       ordinary = there;
       inside = slot_inside;
-      literals = λ l. literals (ap is_method fields_are.format ∙ lt-ltb 23 (body_in v.words s).format (omega (arith, l)));
+      literals = λ l. literals (ap is_method fields_are.format ∙ lt-ltb 23 (body_in v s).format (omega (arith, l)));
       value = λ m. good;
     }
 
-    pub pointer_node : (w : ℕ) → Write v.words s i w → node_of own_name (heap_store v.words) (body_then v.words s i w) ≡ record (node_in v s) { pointers = set (node_in v s).pointers i (heap_value v.words w) }
-    pointer_node w write = node_with_pointer (heap_store v.words) (body_in v.words s) (formed v.words words_sound s object) i w low (like v.words s i w write)
+    pub pointer_node : (w : ℕ) → Write v s i w → node_of own_name (store_of v) (body_then v s i w) ≡ record (node_in v s) { pointers = set (node_in v s).pointers i (heap_value v w) }
+    pointer_node w write = node_with_pointer (store_of v) (body_in v s) (formed v words_sound s object) i w low (like v s i w write)
 
   module _ (i : ℕ) (within : i < length (node_in v s).units) where
-    unit_low : i < unit_count (body_in v.words s)
+    unit_low : i < unit_count (body_in v s)
     unit_low = omega (arith, within, units_count)
 
-    at : UnitAt (body_in v.words s) i
-    at = unit_at_place v.words words_sound s object i unit_low
+    at : UnitAt (body_in v s) i
+    at = unit_at_place v words_sound s object i unit_low
 
-    pub unit_size : IsSize (unit_bytes_in v.words s)
+    pub unit_size : IsSize (unit_bytes_in v s)
     unit_size = at.size
 
     -- the slot that has the unit
     abbrev slot : ℕ
-    slot = pointer_count (body_in v.words s) + i * unit_bytes_in v.words s / 8
+    slot = pointer_count (body_in v s) + i * unit_bytes_in v s / 8
 
-    unit_slot : get_or (body_in v.words s).words slot 0 ≡ get_or v.words (unit_place v.words s i) 0
+    unit_slot : get_or (body_in v s).words slot 0 ≡ get_or v.words (unit_place v s i) 0
     unit_slot =
-        let place : s + 1 + slot ≡ unit_place v.words s i = omega arith in
-        object-word _ v.words _ words_sound.cut s object slot at.inside ∙ ap (λ j. get_or v.words j 0) place
+        let place : s + 1 + slot ≡ unit_place v s i = omega arith in
+        object-word _ v.words _ (order v words_sound) s object slot at.inside ∙ ap (λ j. get_or v.words j 0) place
 
-    pub unit_read : field_of (8 * (i * unit_bytes_in v.words s % 8)) (8 * unit_bytes_in v.words s) (get_or v.words (unit_place v.words s i) 0) ≡ get_or (node_in v s).units i 0
+    pub unit_read : field_of (8 * (i * unit_bytes_in v s % 8)) (8 * unit_bytes_in v s) (get_or v.words (unit_place v s i) 0) ≡ get_or (node_in v s).units i 0
     unit_read =
-        ap (field_of (8 * (i * unit_bytes_in v.words s % 8)) (8 * unit_bytes_in v.words s)) (sym unit_slot)
-        ∙ sym at.read ∙ sym (node_unit (heap_store v.words) (body_in v.words s) i)
+        ap (field_of (8 * (i * unit_bytes_in v s % 8)) (8 * unit_bytes_in v s)) (sym unit_slot)
+        ∙ sym at.read ∙ sym (node_unit (store_of v) (body_in v s) i)
 
-    pub unit_write : (value : ℕ) → Write v.words s slot (unit_word v.words s i value)
+    pub unit_write : (value : ℕ) → Write v s slot (unit_word v s i value)
     unit_write value = record {
       sound = words_sound;
       ordinary = there;
       inside = at.inside;
-      literals = λ l. let some = method_some (body_in v.words s) l in omega (arith, some);
+      literals = λ l. let some = method_some (body_in v s) l in omega (arith, some);
       value = λ m. absurd (omega (arith, m));
     }
 
+    -- a unit is no pointer
+    pub unit_bit : (value : ℕ) → HasBitFor v s slot (unit_word v s i value) (unit_write value)
+    unit_bit value m low over = absurd (omega (arith, m))
+
     pub unit_node : (value : ℕ) → value < 2 ^ (8 * unit_bytes_of (node_in v s).format)
-        → node_of own_name (heap_store v.words) (body_then v.words s slot (unit_word v.words s i value)) ≡ record (node_in v s) { units = set (node_in v s).units i value }
+        → node_of own_name (store_of v) (body_then v s slot (unit_word v s i value)) ≡ record (node_in v s) { units = set (node_in v s).units i value }
     unit_node value range =
-        let u : ℕ = unit_bytes_in v.words s in
+        let u : ℕ = unit_bytes_in v s in
         let fit : value < 2 ^ (8 * u) = subst (λ f. value < 2 ^ (8 * unit_bytes_of f)) fields_are.format range in
-        node_with_unit (heap_store v.words) (body_in v.words s) (formed v.words words_sound s object) i value unit_low fit
-        (set (body_in v.words s).words slot (unit_word v.words s i value))
-        (ap (λ y. set (body_in v.words s).words slot (with_field (8 * (i * u % 8)) (8 * u) y value)) (sym unit_slot))
-        (like v.words s slot (unit_word v.words s i value) (unit_write value))
+        node_with_unit (store_of v) (body_in v s) (formed v words_sound s object) i value unit_low fit
+        (set (body_in v s).words slot (unit_word v s i value))
+        (ap (λ y. set (body_in v s).words slot (with_field (8 * (i * u % 8)) (8 * u) y value)) (sym unit_slot))
+        (like v s slot (unit_word v s i value) (unit_write value))
+
+    -- the heap with the unit
+    abbrev pub unit_put : ℕ → View
+    unit_put value = after v (unit_place v s i) (unit_word v s i value)
+
+    unit_then : (value : ℕ) → unit_put value ≡ then v s slot (unit_word v s i value)
+    unit_then value = let place : unit_place v s i ≡ s + 1 + slot = omega arith in ap (λ j. after v j (unit_word v s i value)) place
+
+    pub unit_whole : (value : ℕ) → IsWhole (unit_put value)
+    unit_whole value = subst (λ (u : View). IsWhole u) (sym (unit_then value)) (whole_written v s slot (unit_word v s i value) (unit_write value) (unit_bit value) whole)
+
+    pub unit_starts : (value t : ℕ) → starts_at (unit_put value) t ≡ starts_at v t
+    unit_starts value t = ap (λ (u : View). starts_at u t) (unit_then value) ∙ starts_kept v s slot (unit_word v s i value) (unit_write value) t
+
+    pub unit_graph : (value : ℕ) → value < 2 ^ (8 * unit_bytes_of (node_in v s).format)
+        → heap_graph (unit_put value) ≡ with_node (heap_graph v) s (record (node_in v s) { units = set (node_in v s).units i value })
+    unit_graph value range =
+        ap heap_graph (unit_then value) ∙ graph_written v s slot (unit_word v s i value) (unit_write value) ∙ ap (with_node (heap_graph v) s) (unit_node value range)
+
+    pub unit_room : (value : ℕ) → heap_room (unit_put value) ≡ heap_room v
+    unit_room value = ap heap_room (unit_then value) ∙ room_kept v s slot (unit_word v s i value) (unit_write value)
+
+    pub unit_values : (value w : ℕ) → heap_value (unit_put value) w ≡ heap_value v w
+    unit_values value w = ap (λ (u : View). heap_value u w) (unit_then value) ∙ value_kept v s slot (unit_word v s i value) (unit_write value) w
+
+    pub unit_goods : (value w : ℕ) → IsGood v w → IsGood (unit_put value) w
+    unit_goods value w good = ap (λ (u : View). is_good u w) (unit_then value) ∙ good_kept v s slot (unit_word v s i value) (unit_write value) w ∙ good
+
+    pub unit_ordinary : (value t : ℕ) → IsOrdinary v t → IsOrdinary (unit_put value) t
+    unit_ordinary value t o = ap (λ (u : View). is_ordinary (store_of u) t) (unit_then value) ∙ ordinary_kept v s slot (unit_word v s i value) (unit_write value) t ∙ o
 
 -- ---- writing
 
-abbrev pub after : View → ℕ → ℕ → View
-after v j w = record v { words = set v.words j w }
+-- the parts of a heap with other words, which are whole and have the same starts
+pub parts_with : (p : HeapParts) → ArePartsOfHeap p → (v u : View) → view_of p ≡ v → (new : List ℕ) → view_of (record p { region = new }) ≡ u → IsWhole u
+    → ((t : ℕ) → starts_at u t ≡ starts_at v t) → length u.words ≡ length v.words → ArePartsOfHeap (record p { region = new })
+parts_with p k v u same new seen whole starts long = record {
+  whole = subst (λ (x : View). IsWhole x) (sym seen) whole;
+  map = record {
+    starts = λ t. k.map.starts t ∙ ap (λ (x : View). starts_at x t) same ∙ sym (starts t) ∙ ap (λ (x : View). starts_at x t) (sym seen);
+    covers = k.map.covers ∙ ap (λ (x : View). length x.words) same ∙ sym long ∙ ap (λ (x : View). length x.words) (sym seen);
+  };
+}
 
--- the view of the parts with other words, by what was put there
-pub put_after : (p v : View) → p ≡ v → (new : List ℕ) (j w : ℕ) → new ≡ set p.words j w → record p { words = new } ≡ after v j w
-put_after p v same new j w is = ap (λ (ws : List ℕ). let u : View = record p { words = ws } in u) is ∙ ap (λ (u : View). after u j w) same
-
-module _ (v : View) (s n w : ℕ) (write : Write v.words s n w) where
-  pub whole_after : IsWhole v → IsWhole (after v (s + 1 + n) w)
-  whole_after whole = record {
-    cut = (sound_kept v.words s n w write).cut;
-    sound = (sound_kept v.words s n w write).sound;
-    clear = clear_kept v.words s n w write whole.clear;
-    held = λ h u e. good_kept v.words s n w write u ∙ whole.held h u e;
-    special_there = reference_kept v.words s n w write v.special ∙ whole.special_there;
-    state_bits = whole.state_bits;
-    header = whole.header;
-    few = (sound_kept v.words s n w write).few;
-  }
-
-  pub graph_after : (m : Node) → node_of own_name (heap_store v.words) (body_then v.words s n w) ≡ m → heap_graph (after v (s + 1 + n) w) ≡ with_node (heap_graph v) s m
-  graph_after m is = graph_written v.words s n w write v.special v.handles v.hash ∙ ap (with_node (heap_graph v) s) is
-
-  pub room_after : heap_room (after v (s + 1 + n) w) ≡ heap_room v
-  room_after = room_kept v.words s n w write v.limits
-
-pub parts_after : (p : HeapParts) → ArePartsOfHeap p → (s n w : ℕ) → Write p.region s n w → (new : List ℕ) → new ≡ set p.region (s + 1 + n) w → ArePartsOfHeap (record p { region = new })
-parts_after p k s n w write new is = subst (λ (ws : List ℕ). ArePartsOfHeap (record p { region = ws })) (sym is) (record {
-  whole = whole_after (view_of p) s n w write k.whole;
-  map = λ t. k.map t ∙ sym (starts_kept p.region s n w write t);
-  covers = k.covers ∙ sym (same_length p.region s n w write);
-  old = k.old ∙ sym (same_length p.region s n w write);
-})
+-- a unit that is put, by what was read
+pub unit_seen : (p v : View) → p ≡ v → (s i value place bytes word w : ℕ) (new : List ℕ) → place ≡ unit_place p s i → bytes ≡ unit_bytes_of (body_in p s).format → word ≡ get_or p.words place 0
+    → w ≡ with_field (8 * (i * bytes % 8)) (8 * bytes) word value → new ≡ set p.words place w → record p { words = new } ≡ after v (unit_place v s i) (unit_word v s i value)
+unit_seen p v same s i value place bytes word w new place_is bytes_is word_is w_is new_is =
+    let read : word ≡ get_or p.words (unit_place p s i) 0 = word_is ∙ ap (λ j. get_or p.words j 0) place_is in
+    let unit : w ≡ unit_word p s i value = w_is ∙ (λ x. with_field (8 * (i * bytes_is x % 8)) (8 * bytes_is x) (read x) value) in
+    let words : new ≡ set p.words (unit_place p s i) (unit_word p s i value) = new_is ∙ (λ x. set p.words (place_is x) (unit x)) in
+    ap (λ (ws : List ℕ). let u : View = record p { words = ws } in u) words ∙ ap (λ (u : View). after u (unit_place u s i) (unit_word u s i value)) same

@@ -1,5 +1,5 @@
 -- Units of 1, 2, 4 and 8 bytes in words of 8.
-use Rattle.std.proofs.Common.{◌≡◌, ◌≢◌, ◌⊎◌, ℕ, Bool, true, false, cond, ◌+◌, ◌-◌, ◌*◌, ◌/◌, ◌%◌, ◌^◌, ◌<◌, ◌≤◌, refl, inl, inr, arith, nat_lt, nat_eq}
+use Rattle.std.proofs.Common.{◌≡◌, ◌≢◌, ◌⊎◌, ℕ, Bool, true, false, cond, ◌-◌, ◌*◌, ◌/◌, ◌%◌, ◌^◌, ◌<◌, ◌≤◌, refl, inl, inr, arith, nat_lt, nat_eq}
 use Rattle.std.proofs.lemmas.Bool.{cases_lt, cases_Bool, eqb-false}
 use Rattle.object_header.specs.Field.{IsApart}
 use Rattle.object_header.specs.Formats.{unit_bytes_of}
@@ -46,14 +46,6 @@ unfolding IsSize
 mask_is u s = elim s [
   | inl e ↦ rw e refl
   | inr r ↦ elim r [ inl e ↦ rw e refl | inr q ↦ elim q [ inl e ↦ rw e refl | inr e ↦ rw e refl ] ]
-]
-
--- a unit lies in one word
-pub size_place : (u i : ℕ) → IsSize u → 8 * (i * u % 8) + 8 * u ≤ 64
-unfolding IsSize
-size_place u i s = elim s [
-  | inl e ↦ rw e (omega arith)
-  | inr r ↦ elim r [ inl e ↦ rw e (omega arith) | inr q ↦ elim q [ inl e ↦ rw e (omega arith) | inr e ↦ rw e (omega arith) ] ]
 ]
 
 -- units of one word share no bit

@@ -1,140 +1,163 @@
 -- A word of the body of an ordinary object is written.
-use Rattle.std.proofs.Common.{◌≡◌, ℕ, true, not, ◌&&◌, ◌+◌, ◌-◌, ◌<◌, ◌≤◌, List, map, length, get_or, set, sym, ap, ◌∙◌, subst, arith, inl, inr}
+use Rattle.std.proofs.Common.{◌≡◌, ℕ, true, not, ◌&&◌, ◌+◌, ◌-◌, ◌<◌, ◌≤◌, length, get_or, set, refl, sym, ap, ◌∙◌, subst, arith, inl, inr}
 use Rattle.std.proofs.lemmas.Bool.{cases_eq, cases_lt, lt-ltb, not-false}
 use Rattle.std.proofs.lemmas.List.{length-set, get_or-set_same, get_or-set_other}
-use Rattle.std.proofs.lemmas.List.Elements.{Contains-get_or}
-use Rattle.std.specs.List.{All}
-use Rattle.std.specs.FinMap.{FinMap}
-use Rattle.spur_graph.specs.declared.limits.Limits.{Limits}
-use Rattle.spur_graph.specs.Graph.{handle_cmp, with_node}
-use Rattle.spur_graph.specs.Chunks.{Chunk, Cuts, chunks}
-use Rattle.spur_graph.specs.Cells.{Body, There, Store, is_there, pointer_count, cell_in, is_start}
-use Rattle.spur_graph.specs.Ordinary.{is_ordinary, is_good_word, is_good_reference}
-use Rattle.spur_graph.specs.CellGraph.{read, node_of, graph_of}
-use Rattle.spur_graph.specs.CellRoom.{room_of, free_sizes}
-use Rattle.spur_graph.specs.Heaps.{heap_store, heap_to, heap_value, handle_values, own_name, IsClear, IsSound}
-use Rattle.heap_cells.specs.Rows.{slots_at, starts_of}
+use Rattle.spur_graph.specs.Graph.{with_node}
+use Rattle.object_header.specs.Chunks.{Chunk, slots_at}
+use Rattle.spur_graph.specs.Cells.{Body, There, Store, is_there, pointer_count, is_start}
+use Rattle.spur_graph.specs.Spaces.{old_row, eden_row, past_row}
+use Rattle.spur_graph.specs.Ordinary.{is_ordinary, is_good_word}
+use Rattle.spur_graph.specs.CellGraph.{read, node_of}
+use Rattle.spur_graph.specs.Heaps.{View, IsWhole, HasBits, store_of, chunks_of, heap_to, heap_value, heap_graph, heap_room, own_name, is_over, is_remembered, names_over}
+use Rattle.heap_cells.specs.Rows.{starts_of}
 use Rattle.heap_cells.specs.RowWrites.{Rewrites}
 use Rattle.heap_cells.proofs.CellKinds.{there_starts, there_is}
 use Rattle.heap_cells.proofs.Bodies.{IsLike, with_words}
-use Rattle.heap_cells.proofs.Cutting.{chunks-are}
+use Rattle.heap_cells.proofs.Cutting.{start-in}
 use Rattle.heap_cells.proofs.Members.{In, in_list, listed, start_of_chunk}
 use Rattle.heap_cells.proofs.ObjectWrites.{body-written}
+use Rattle.heap_cells.proofs.Over.{over-written}
 use Rattle.heap_cells.proofs.References.{ordinary_there}
 use Rattle.heap_cells.proofs.Starts.{starts-rise}
 use Rattle.heap_cells.proofs.ObjectReads.{object-slots}
 use Rattle.spur_heap.specs.Words.{AreSound, body_in, is_good, starts_at}
+use Rattle.spur_heap.specs.Remembering.{after}
+use Rattle.spur_heap.proofs.Orders.{order}
 use Rattle.spur_heap.proofs.Hops.{start_at}
-use Rattle.spur_heap.proofs.Changing.{changed, Change, start-same, ordinary-same, reference-same, good-same, sound_changed}
+use Rattle.spur_heap.proofs.OneCell.{with_cell}
+use Rattle.spur_heap.proofs.Touched.{Touch, Keeps, Fits, same_bit, touched_store, touched_whole, touched_graph, touched_room}
+use Rattle.spur_heap.proofs.Changing.{changed, Change, start-same, internal-same, ordinary-same, reference-same, good-same, sound_changed, mourners_kept}
 use Rattle.spur_heap.proofs.Graphs.{read-same, graph-changed, room-same}
 
 -- a pointer slot of an ordinary object has a good word
-pub slot_good : (words : List ℕ) → AreSound words → (s : ℕ) → is_ordinary (heap_store words) s ≡ true → (i : ℕ) → i < pointer_count (body_in words s) → is_good words (get_or (body_in words s).words i 0) ≡ true
-slot_good words k s ordinary i low = not-false _ (sym (λ x. ordinary x && lt-ltb i (pointer_count (body_in words s)) low x && not (is_good words (get_or (body_in words s).words i 0))) ∙ k.sound.slots s i)
+pub slot_good : (v : View) → AreSound v → (s : ℕ) → is_ordinary (store_of v) s ≡ true → (i : ℕ) → i < pointer_count (body_in v s) → is_good v (get_or (body_in v s).words i 0) ≡ true
+slot_good v k s ordinary i low = not-false _ (sym (λ x. ordinary x && lt-ltb i (pointer_count (body_in v s)) low x && not (is_good v (get_or (body_in v s).words i 0))) ∙ k.sound.slots s i)
 
 -- a word for slot `n` of the ordinary object that starts at `s`
-pub record Write (words : List ℕ) (s n w : ℕ) : Type 0 where
-  pub sound : AreSound words
-  pub ordinary : is_ordinary (heap_store words) s ≡ true
-  pub inside : n < length (body_in words s).words
-  pub literals : 24 ≤ (body_in words s).format → 0 < n
-  pub value : n < pointer_count (body_in words s) → is_good words w ≡ true
+pub record Write (v : View) (s n w : ℕ) : Type 0 where
+  pub sound : AreSound v
+  pub ordinary : is_ordinary (store_of v) s ≡ true
+  pub inside : n < length (body_in v s).words
+  pub literals : 24 ≤ (body_in v s).format → 0 < n
+  pub value : n < pointer_count (body_in v s) → is_good v w ≡ true
 
 -- the words of the object then
-abbrev pub body_then : List ℕ → ℕ → ℕ → ℕ → Body
-body_then words s n w = with_words (body_in words s) (set (body_in words s).words n w)
+abbrev pub body_then : View → ℕ → ℕ → ℕ → Body
+body_then v s n w = with_words (body_in v s) (set (body_in v s).words n w)
 
-module _ (words : List ℕ) (s n w : ℕ) (k : Write words s n w) where
-  object : is_there ((heap_store words).cell s) ≡ true
-  object = ordinary_there (heap_store words) s k.ordinary
+-- the heap then
+abbrev pub then : View → ℕ → ℕ → ℕ → View
+then v s n w = after v (s + 1 + n) w
 
-  slots : length (body_in words s).words ≡ slots_at words s
-  slots = object-slots _ words _ k.sound.cut s object
+module _ (v : View) (s n w : ℕ) (k : Write v s n w) where
+  object : is_there ((store_of v).cell s) ≡ true
+  object = ordinary_there (store_of v) s k.ordinary
 
-  rewrites : Rewrites heap_to words (set words (s + 1 + n) w) (length words) (chunks words) s (There (body_then words s n w))
+  slots : length (body_in v s).words ≡ slots_at v.words s
+  slots = object-slots _ v.words _ (order v k.sound) s object
+
+  rewrites : Rewrites heap_to v.words (then v s n w).words (length v.words) (chunks_of v) s (There (body_then v s n w))
   rewrites =
-      let r = body-written heap_to words (length words) (chunks words) s (s + 1 + n) w (body_in words s) k.sound.cut (there_is ((heap_store words).cell s) object) (omega arith) (omega (arith, slots, k.inside)) in
+      let r = body-written heap_to v.words (length v.words) (chunks_of v) s (s + 1 + n) w (body_in v s) (order v k.sound) (there_is ((store_of v).cell s) object) (omega arith) (omega (arith, slots, k.inside)) in
       let place : s + 1 + n - s - 1 ≡ n = omega arith in
-      subst (λ i. Rewrites heap_to words (set words (s + 1 + n) w) (length words) (chunks words) s (There (body_then words s i w))) place r
+      subst (λ i. Rewrites heap_to v.words (then v s n w).words (length v.words) (chunks_of v) s (There (body_then v s i w))) place r
 
-  pub same_length : length (set words (s + 1 + n) w) ≡ length words
-  same_length = length-set words (s + 1 + n) w
+  pub same_length : length (then v s n w).words ≡ length v.words
+  same_length = length-set v.words (s + 1 + n) w
 
-  chunks-same : chunks (set words (s + 1 + n) w) ≡ chunks words
-  chunks-same = chunks-are (set words (s + 1 + n) w) (chunks words) (subst (λ m. Cuts (set words (s + 1 + n) w) 0 m (chunks words)) (sym same_length) rewrites.row)
-
-  store-changed : heap_store (set words (s + 1 + n) w) ≡ changed (heap_store words) s (body_then words s n w)
-  store-changed =
-      let cell : (t : ℕ) → cell_in heap_to (set words (s + 1 + n) w) (chunks (set words (s + 1 + n) w)) t ≡ (changed (heap_store words) s (body_then words s n w)).cell t =
-      λ t. ap (λ cs. cell_in heap_to (set words (s + 1 + n) w) cs t) chunks-same ∙ rewrites.cell t in
-      λ x. record { names = same_length x; starts = map (λ (c : Chunk). c.start) (chunks-same x); cell = λ t. cell t x; to = heap_to }
-
-  good_slot : (i : ℕ) → i < pointer_count (body_in words s) → is_good words (get_or (set (body_in words s).words n w) i 0) ≡ true
+  good_slot : (i : ℕ) → i < pointer_count (body_in v s) → is_good v (get_or (set (body_in v s).words n w) i 0) ≡ true
   good_slot i low = elim (cases_eq i n) [
-    | inl e ↦ ap (λ m. is_good words (get_or (set (body_in words s).words n w) m 0)) e ∙ ap (is_good words) (get_or-set_same (body_in words s).words n w 0 k.inside) ∙ k.value (omega (arith, e, low))
-    | inr other ↦ ap (is_good words) (get_or-set_other (body_in words s).words n i w 0 other) ∙ slot_good words k.sound s k.ordinary i low
+    | inl e ↦ ap (λ m. is_good v (get_or (set (body_in v s).words n w) m 0)) e ∙ ap (is_good v) (get_or-set_same (body_in v s).words n w 0 k.inside) ∙ k.value (omega (arith, e, low))
+    | inr other ↦ ap (is_good v) (get_or-set_other (body_in v s).words n i w 0 other) ∙ slot_good v k.sound s k.ordinary i low
   ]
 
-  pub like : IsLike (body_in words s) (set (body_in words s).words n w)
-  like = record { long = length-set (body_in words s).words n w; first = λ l. get_or-set_other (body_in words s).words n 0 w 0 (λ e. let some = k.literals l in omega (arith, e, some)) }
+  pub like : IsLike (body_in v s) (set (body_in v s).words n w)
+  like = record { long = length-set (body_in v s).words n w; first = λ l. get_or-set_other (body_in v s).words n 0 w 0 (λ e. let some = k.literals l in omega (arith, e, some)) }
 
-  change : Change (heap_store words) s (body_in words s) (set (body_in words s).words n w)
+  pub change : Change (store_of v) s (body_in v s) (body_then v s n w)
   change = record {
     sound = k.sound.sound;
-    there = there_is ((heap_store words).cell s) object;
+    there = there_is ((store_of v).cell s) object;
     ordinary = k.ordinary;
+    class = refl;
+    hash = refl;
+    format = refl;
     like = like;
     slots = good_slot;
   }
 
-  -- ---- what is the same
-
-  pub starts_kept : (t : ℕ) → starts_at (set words (s + 1 + n) w) t ≡ starts_at words t
-  starts_kept t = ap (λ (h : Store). is_start (h.cell t)) store-changed ∙ start-same change t
-
-  pub ordinary_kept : (t : ℕ) → is_ordinary (heap_store (set words (s + 1 + n) w)) t ≡ is_ordinary (heap_store words) t
-  ordinary_kept t = ap (λ (h : Store). is_ordinary h t) store-changed ∙ ordinary-same change t
-
-  pub reference_kept : (u : ℕ) → is_good_reference (heap_store (set words (s + 1 + n) w)) u ≡ is_good_reference (heap_store words) u
-  reference_kept u = ap (λ (h : Store). is_good_reference h u) store-changed ∙ reference-same change u
-
-  pub good_kept : (u : ℕ) → is_good (set words (s + 1 + n) w) u ≡ is_good words u
-  good_kept u = ap (λ (h : Store). is_good_word h u) store-changed ∙ good-same change u
-
-  pub value_kept : (u : ℕ) → heap_value (set words (s + 1 + n) w) u ≡ heap_value words u
-  value_kept u = ap (λ (h : Store). read own_name h u) store-changed ∙ read-same change u
-
-  pub sound_kept : AreSound (set words (s + 1 + n) w)
-  sound_kept = record {
-    cut = subst (λ cs. Cuts (set words (s + 1 + n) w) 0 (length (set words (s + 1 + n) w)) cs) (sym chunks-same) (subst (λ m. Cuts (set words (s + 1 + n) w) 0 m (chunks words)) (sym same_length) rewrites.row);
-    sound = subst (λ (h : Store). IsSound h) (sym store-changed) (sound_changed change);
-    few = let few = k.sound.few in omega (arith, same_length, few);
-  }
-
   -- no header is written
-  header_kept : (c : Chunk) → In (chunks words) c → get_or (set words (s + 1 + n) w) c.start 0 ≡ get_or words c.start 0
-  header_kept c m = get_or-set_other words (s + 1 + n) c.start w 0 (λ e. elim (cases_lt s c.start) [
+  header_kept : (c : Chunk) → In (chunks_of v) c → get_or (then v s n w).words c.start 0 ≡ get_or v.words c.start 0
+  header_kept c m = get_or-set_other v.words (s + 1 + n) c.start w 0 (λ e. elim (cases_lt s c.start) [
     | inr before ↦ omega (arith, e, before)
     | inl behind ↦
-        let a = (starts-rise words (length words) (chunks words) k.sound.cut).apart s c.start (start_at words k.sound s (there_starts ((heap_store words).cell s) object)).stands (listed (starts_of (chunks words)) c.start (start_of_chunk (chunks words) c m)) behind in
+        let rise = starts-rise v.words (length v.words) (chunks_of v) (order v k.sound) in
+        let a = rise.apart s c.start (start_at v k.sound s (there_starts ((store_of v).cell s) object)).stands (listed (starts_of (chunks_of v)) c.start (start_of_chunk (chunks_of v) c m)) behind in
         omega (arith, e, a.slots, slots, k.inside)
   ])
 
-  pub clear_kept : All (λ (c : Chunk). IsClear (get_or words c.start 0)) (chunks words) → All (λ (c : Chunk). IsClear (get_or (set words (s + 1 + n) w) c.start 0)) (chunks (set words (s + 1 + n) w))
-  clear_kept clear =
-      subst (λ (cs : List Chunk). All (λ (c : Chunk). IsClear (get_or (set words (s + 1 + n) w) c.start 0)) cs) (sym chunks-same)
-      (λ j d l. subst (λ v. IsClear v) (sym (header_kept (get_or (chunks words) j d) (in_list (chunks words) (get_or (chunks words) j d) (Contains-get_or (chunks words) j d l)))) (clear j d l))
+  own_header : get_or (then v s n w).words s 0 ≡ get_or v.words s 0
+  own_header = get_or-set_other v.words (s + 1 + n) s w 0 (λ e. omega (arith, e))
 
-  pub graph_written : (special : ℕ) (held : FinMap handle_cmp ℕ) (hash : ℕ)
-      → graph_of own_name (heap_store (set words (s + 1 + n) w)) special (handle_values (heap_value (set words (s + 1 + n) w)) held) hash (length (set words (s + 1 + n) w))
-      ≡ with_node (graph_of own_name (heap_store words) special (handle_values (heap_value words) held) hash (length words)) s (node_of own_name (heap_store words) (body_then words s n w))
-  graph_written special held hash =
-      (λ x. graph_of own_name (store-changed x) special (handle_values (read own_name (store-changed x)) held) hash (same_length x))
-      ∙ graph-changed change (in_list (starts_of (chunks words)) s (start_at words k.sound s (there_starts ((heap_store words).cell s) object)).stands) special held hash (length words)
+  touch : Touch v (then v s n w).words s (There (body_then v s n w))
+  touch = record { sound = k.sound; long = same_length; rewrites = rewrites; headers = λ c m n. header_kept c m }
 
-  pub room_kept : (limits : Limits)
-      → room_of own_name (heap_store (set words (s + 1 + n) w)) (chunks (set words (s + 1 + n) w)) (length (set words (s + 1 + n) w)) limits (free_sizes (heap_store (set words (s + 1 + n) w)) (chunks (set words (s + 1 + n) w)))
-      ≡ room_of own_name (heap_store words) (chunks words) (length words) limits (free_sizes (heap_store words) (chunks words))
-  room_kept limits =
-      (λ x. room_of own_name (store-changed x) (chunks-same x) (same_length x) limits (free_sizes (store-changed x) (chunks-same x)))
-      ∙ room-same change (chunks words) (length words) limits
+  keeps : Keeps (store_of v) (with_cell (store_of v) s (There (body_then v s n w)))
+  keeps = record {
+    sound = sound_changed change;
+    internal = λ t e. sym (internal-same change t) ∙ e;
+    goods = λ u e. good-same change u ∙ e;
+    references = λ u e. reference-same change u ∙ e;
+    mourners = mourners_kept change;
+  }
+
+  -- the object is remembered where it has to be for this word
+  abbrev pub HasBitFor : Type 0
+  HasBitFor = n < pointer_count (body_in v s) → s < v.spaces.old_end → is_over v.spaces.old_end w ≡ true → is_remembered v.words s ≡ true
+
+  bit_kept : is_remembered (then v s n w).words s ≡ is_remembered v.words s
+  bit_kept = same_bit v.words (then v s n w).words s own_header
+
+  fits : HasBitFor → IsWhole v → Fits v (then v s n w).words s (There (body_then v s n w))
+  fits remembered_at whole = record {
+    bits = λ bits. subst (λ u. HasBits v.phase u) (sym own_header) bits;
+    all = λ low other over. bit_kept ∙ elim (over-written v.spaces.old_end (body_in v s) n w k.inside like over) [
+      | inl before ↦ whole.remembered.all s low other (ap (names_over v.spaces.old_end) change.there ∙ before)
+      | inr now ↦ remembered_at now.0 low now.1
+    ];
+    only = λ on.
+        let c = start-in heap_to v.words (chunks_of v) s (there_starts ((store_of v).cell s) object) in
+        let r = whole.remembered.only c.0 (listed (chunks_of v) c.0 c.1) (ap (is_remembered v.words) c.2 ∙ sym bit_kept ∙ on) in
+        (omega (arith, r.0, c.2), refl);
+    young = λ l mobile. (refl, mobile);
+  }
+
+  pub whole_written : HasBitFor → IsWhole v → IsWhole (then v s n w)
+  whole_written remembered_at whole = touched_whole v (then v s n w).words s (There (body_then v s n w)) touch (fits remembered_at whole) keeps whole
+
+  store-changed : store_of (then v s n w) ≡ changed (store_of v) s (body_then v s n w)
+  store-changed = touched_store v (then v s n w).words s (There (body_then v s n w)) touch
+
+  -- ---- what is the same
+
+  pub starts_kept : (t : ℕ) → starts_at (then v s n w) t ≡ starts_at v t
+  starts_kept t = ap (λ (h : Store). is_start (h.cell t)) store-changed ∙ start-same change t
+
+  pub ordinary_kept : (t : ℕ) → is_ordinary (store_of (then v s n w)) t ≡ is_ordinary (store_of v) t
+  ordinary_kept t = ap (λ (h : Store). is_ordinary h t) store-changed ∙ ordinary-same change t
+
+  pub good_kept : (u : ℕ) → is_good (then v s n w) u ≡ is_good v u
+  good_kept u = ap (λ (h : Store). is_good_word h u) store-changed ∙ good-same change u
+
+  pub value_kept : (u : ℕ) → heap_value (then v s n w) u ≡ heap_value v u
+  value_kept u = ap (λ (h : Store). read own_name h u) store-changed ∙ read-same change u
+
+  pub graph_written : heap_graph (then v s n w) ≡ with_node (heap_graph v) s (node_of own_name (store_of v) (body_then v s n w))
+  graph_written =
+      touched_graph v (then v s n w).words s (There (body_then v s n w)) touch
+      ∙ graph-changed change (in_list (starts_of (chunks_of v)) s (start_at v k.sound s (there_starts ((store_of v).cell s) object)).stands) v.special v.handles v.mourners v.hash (length v.words)
+
+  pub room_kept : heap_room (then v s n w) ≡ heap_room v
+  room_kept =
+      touched_room v (then v s n w).words s (There (body_then v s n w)) touch
+      ∙ room-same change refl (old_row v.words v.spaces) (eden_row v.words v.spaces) (past_row v.words v.spaces) v.spaces.old_end v.limits v.spaces.eden_used v.spaces.past_used

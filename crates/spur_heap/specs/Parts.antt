@@ -1,38 +1,101 @@
 -- The parts of a heap, as they stand for one.
-use Rattle.std.specs.Prelude.{ℕ, ◌≡◌, List, length, refl}
+use Rattle.std.specs.Prelude.{ℕ, ◌≡◌, List, [], length, refl, nat_eq, if◌then◌else◌}
 use Rattle.std.specs.Coded.{Coded, code_by, coded×, coded_ℕ, coded_list}
 use Rattle.std.specs.FinMap.{FinMap, code}
 use Rattle.heap_walk.specs.Starts.{has_start, covered}
 use Rattle.spur_graph.specs.Graph.{handle_cmp}
 use Rattle.spur_graph.specs.Cells.{is_start}
-use Rattle.spur_graph.specs.Heaps.{View, heap_store, IsWhole}
+use Rattle.spur_graph.specs.Spaces.{Spaces}
+use Rattle.spur_graph.specs.Heaps.{View, Phase, Whole, Marked, store_of, IsWhole}
 use Rattle.spur_heap.specs.declared.heap.HeapParts.{HeapParts}
+use Rattle.spur_heap.specs.declared.heap.Phase as code
+use Rattle.spur_heap.specs.declared.heap.Phase.TheVariants as codes
 
--- what contracts see of the parts
+-- where the spaces are
+abbrev pub spaces_of : HeapParts → Spaces
+spaces_of p = record {
+  old_end = p.old_end;
+  eden_at = p.eden_at;
+  first_at = p.first_at;
+  second_at = p.second_at;
+  past_at = p.past_at;
+  eden_used = p.eden_used;
+  past_used = p.past_used;
+}
+
+-- the phase as contracts see it
+abbrev pub phase_seen : code.Phase → Phase
+phase_seen codes.Whole = Whole
+phase_seen codes.Marked = Marked
+
+-- what contracts see of the parts; there are no mourners so far
 abbrev pub view_of : HeapParts → View
-view_of p = record { words = p.region; handles = p.handles; special = p.special; hash = p.hash; carried = p.carried; limits = p.limits }
+view_of p = record {
+  words = p.region;
+  spaces = spaces_of p;
+  mourners = [];
+  handles = p.handles;
+  special = p.special;
+  hash = p.hash;
+  carried = p.carried;
+  limits = p.limits;
+  phase = phase_seen p.phase;
+}
 
--- the parts stand for a graph, the map has the starts, and the whole region is old space
+-- the map has the starts of objects and forwarders, and no other
+pub record HasMap (p : HeapParts) : Type 0 where
+  pub starts : (s : ℕ) → has_start p.starts s ≡ is_start ((store_of (view_of p)).cell s)
+  pub covers : covered p.starts ≡ length p.region
+
+-- the parts stand for a graph, and each table has what the words tell
 pub record ArePartsOfHeap (p : HeapParts) : Type 0 where
   pub whole : IsWhole (view_of p)
-  pub map : (s : ℕ) → has_start p.starts s ≡ is_start ((heap_store p.region).cell s)
-  pub covers : covered p.starts ≡ length p.region
-  pub old : p.old_end ≡ length p.region
+  pub map : HasMap p
+
+-- phases as numbers
+abbrev number_of : Phase → ℕ
+number_of Whole = 0
+number_of Marked = 1
+
+abbrev phase_of : ℕ → Phase
+phase_of n = if nat_eq n 0 then Whole else Marked
+
+pub phase_back : (phase : Phase) → phase_of (number_of phase) ≡ phase
+phase_back Whole = refl
+phase_back Marked = refl
+
+abbrev phase_code : Coded Phase
+phase_code = code_by ℕ coded_ℕ number_of phase_of phase_back
+
+-- spaces as numbers
+abbrev Seven : Type 0
+Seven = ℕ × (ℕ × (ℕ × (ℕ × (ℕ × (ℕ × ℕ)))))
+
+abbrev spaces_code : Coded Spaces
+spaces_code = code_by Seven
+    (coded× coded_ℕ (coded× coded_ℕ (coded× coded_ℕ (coded× coded_ℕ (coded× coded_ℕ (coded× coded_ℕ coded_ℕ))))))
+    (λ p. (p.old_end, (p.eden_at, (p.first_at, (p.second_at, (p.past_at, (p.eden_used, p.past_used)))))))
+    (λ t. record { old_end = t.0; eden_at = t.1.0; first_at = t.1.1.0; second_at = t.1.1.1.0; past_at = t.1.1.1.1.0; eden_used = t.1.1.1.1.1.0; past_used = t.1.1.1.1.1.1 })
+    (λ _. refl)
 
 -- a view as a tuple of what has a code
 abbrev pub Fields : Type 0
-Fields = List ℕ × (FinMap handle_cmp ℕ × (ℕ × (ℕ × (List ℕ × (ℕ × (ℕ × (ℕ × ℕ)))))))
+Fields = List ℕ × (FinMap handle_cmp ℕ × (ℕ × (ℕ × (List ℕ × (ℕ × (ℕ × (ℕ × (ℕ × (Spaces × (List (List ℕ) × Phase))))))))))
 
 abbrev pub view_code : Coded View
 view_code = code_by Fields
-    (coded× (coded_list coded_ℕ) (coded× (code (coded× coded_ℕ (coded_list coded_ℕ)) coded_ℕ) (coded× coded_ℕ (coded× coded_ℕ (coded× (coded_list coded_ℕ) (coded× coded_ℕ (coded× coded_ℕ (coded× coded_ℕ coded_ℕ))))))))
-    (λ v. (v.words, (v.handles, (v.special, (v.hash, (v.carried, (v.limits.eden, (v.limits.survivor, (v.limits.room, v.limits.saved)))))))))
+    (coded× (coded_list coded_ℕ) (coded× (code (coded× coded_ℕ (coded_list coded_ℕ)) coded_ℕ) (coded× coded_ℕ (coded× coded_ℕ (coded× (coded_list coded_ℕ)
+    (coded× coded_ℕ (coded× coded_ℕ (coded× coded_ℕ (coded× coded_ℕ (coded× spaces_code (coded× (coded_list (coded_list coded_ℕ)) phase_code)))))))))))
+    (λ v. (v.words, (v.handles, (v.special, (v.hash, (v.carried, (v.limits.eden, (v.limits.survivor, (v.limits.room, (v.limits.saved, (v.spaces, (v.mourners, v.phase))))))))))))
     (λ t. record {
       words = t.0;
       handles = t.1.0;
       special = t.1.1.0;
       hash = t.1.1.1.0;
       carried = t.1.1.1.1.0;
-      limits = record { eden = t.1.1.1.1.1.0; survivor = t.1.1.1.1.1.1.0; room = t.1.1.1.1.1.1.1.0; saved = t.1.1.1.1.1.1.1.1 };
+      limits = record { eden = t.1.1.1.1.1.0; survivor = t.1.1.1.1.1.1.0; room = t.1.1.1.1.1.1.1.0; saved = t.1.1.1.1.1.1.1.1.0 };
+      spaces = t.1.1.1.1.1.1.1.1.1.0;
+      mourners = t.1.1.1.1.1.1.1.1.1.1.0;
+      phase = t.1.1.1.1.1.1.1.1.1.1.1;
     })
     (λ _. refl)

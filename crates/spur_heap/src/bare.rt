@@ -12,16 +12,18 @@ use spur_graph::Limits;
 use spur_words::{NoMemory, Region};
 use std::alloc::Global;
 
-/// The places and tables of a heap, to be filled: not yet a heap.
+/// The places and tables of a heap, to be filled: not yet a heap. A place is the index of a word of the region.
 #[derive(Drop)]
 pub struct Bare {
-    /// All words: old space, eden, and the two survivor spaces.
+    /// All words: old space, eden and the two survivor spaces, one behind another.
     pub region: Region,
+    /// Where old space ends. It begins at word 0.
+    pub old_end: usize,
     /// The starts of objects and forwarders: none.
     pub starts: StartMap,
     /// The handles: none.
     pub handles: HandleTable,
-    /// How large the parts were asked to be.
+    /// How large the spaces and tables were asked to be.
     pub limits: Limits,
 }
 
@@ -35,6 +37,7 @@ impl Bare {
         ensures unmarked { IfOk result (λ bare. (s : ℕ) → has_start bare.starts s ≡ false) }
         ensures unbound { IfOk result (λ bare. bare.handles ≡ map.empty) }
         ensures limits { IfOk result (λ bare. bare.limits ≡ limits) }
+        ensures end { IfOk result (λ bare. bare.old_end ≡ old_words) }
     {
         let words = old_words + limits.eden + 2 * limits.survivor;
         let region = Region::new(alloc, words)?;
@@ -44,6 +47,7 @@ impl Bare {
         };
         Ok(Bare {
             region,
+            old_end: old_words,
             starts,
             handles,
             limits,

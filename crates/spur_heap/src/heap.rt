@@ -8,26 +8,38 @@ ghost use Rattle.spur_graph.specs.Cells.{first};
 ghost use Rattle.spur_graph.specs.Graph.{IsClosed};
 ghost use Rattle.spur_graph.specs.Heaps.{heap_graph, heap_value, IsWhole};
 ghost use Rattle.heap_cells.specs.Settled.{word_of};
-ghost use Rattle.spur_heap.specs.Views.{IsGood, adopted, class_word, follows, store};
+ghost use Rattle.spur_heap.specs.Views.{Adopts, AreClear, IsGood, adopted, class_word, follows, store};
 
 use crate::bare::Bare;
 use crate::chains::follow_word;
 use crate::classes::class_word;
-use crate::places::{first_word, mark_starts};
+use crate::places::first_word;
 use handle_table::HandleTable;
-use heap_walk::StartMap;
+use heap_walk::{StartMap, mark_starts};
 use spur_graph::{HandleName, Limits, Refusal, words_fit};
 use spur_words::Region;
 use std::marker::Model;
 
-/// The parts of a heap.
+/// The parts of a heap. A place is the index of a word of the region, and a size is a number of words.
 #[derive(Drop)]
 pub struct HeapParts {
-    /// All words. A reference is 8 times the index of a header.
+    /// All words: old space, eden and the two survivor spaces, one behind another. A reference is 8 times the place of a header.
     pub region: Region,
-    /// Where old space ends.
+    /// Where old space ends. It begins at word 0.
     pub old_end: usize,
-    /// The starts of objects and forwarders.
+    /// Where eden begins, at the end of old space or behind it.
+    pub eden_at: usize,
+    /// Where eden ends and the first survivor space begins.
+    pub first_at: usize,
+    /// Where the first survivor space ends and the second begins.
+    pub second_at: usize,
+    /// Where past space begins: the one of the two survivor spaces that has objects.
+    pub past_at: usize,
+    /// How many of the first words of eden are used.
+    pub eden_used: usize,
+    /// How many of the first words of past space are used.
+    pub past_used: usize,
+    /// The starts of the objects and forwarders of all spaces.
     pub starts: StartMap,
     /// The words of handles, by mutator and name.
     pub handles: HandleTable,
@@ -37,8 +49,19 @@ pub struct HeapParts {
     pub special: u64,
     /// The 128 bytes of the image's header.
     pub carried: [u8; 128],
-    /// How large the parts were asked to be.
+    /// How large the spaces and tables were asked to be.
     pub limits: Limits,
+    /// Whether objects may be marked.
+    pub phase: Phase,
+}
+
+/// Whether headers may have their mark bits.
+#[derive(Clone, Copy)]
+pub enum Phase {
+    /// No header has its mark bit.
+    Whole,
+    /// Any header may have its mark bit, as between a marking and the compaction that follows.
+    Marked,
 }
 
 /// A heap that stands for an object graph.
@@ -62,33 +85,41 @@ impl Model for Heap {
 }
 
 impl Heap {
-    /// The heap of places that are filled: from now on its words stand for a graph. No handle is bound.
+    /// The heap of places that are filled: from now on its words stand for a graph. Nothing stands in new space, and no handle is bound.
     pub fn adopt(bare: Bare, special: u64, hash: u32, carried: [u8; 128]) -> Heap
-        requires one_space { (bare.limits.eden ≡ 0) × (bare.limits.survivor ≡ 0) }
         requires covers { covered bare.starts ≡ length bare.region }
         requires unmarked { (s : ℕ) → has_start bare.starts s ≡ false }
         requires unbound { bare.handles ≡ map.empty }
         requires whole { IsWhole (adopted bare special hash carried) }
-        ensures { result ≡ adopted bare special hash carried }
+        requires clear { AreClear (adopted bare special hash carried) }
+        ensures { Adopts (adopted bare special hash carried) result }
     {
         let Bare {
             region,
+            old_end,
             mut starts,
             handles,
             limits,
         } = bare;
-        mark_starts(region.as_slice(), &mut starts);
-        let old_end = region.len();
+        mark_starts(region.as_slice(), old_end, &mut starts);
+        let first_at = old_end + limits.eden;
         Heap {
             parts: HeapParts {
                 region,
                 old_end,
+                eden_at: old_end,
+                first_at,
+                second_at: first_at + limits.survivor,
+                past_at: first_at,
+                eden_used: 0,
+                past_used: 0,
                 starts,
                 handles,
                 hash,
                 special,
                 carried,
                 limits,
+                phase: Phase::Whole,
             },
         }
     }
@@ -108,7 +139,7 @@ impl Heap {
         ensures word { result ≡ word_of (first (store self.now) 0) }
         ensures good { IsGood self.now result }
     {
-        first_word(self.parts.region.as_slice(), 0)
+        first_word(&self.parts, 0)
     }
 
     /// The word of false.
@@ -116,7 +147,7 @@ impl Heap {
         ensures word { result ≡ word_of (first (store self.now) 1) }
         ensures good { IsGood self.now result }
     {
-        first_word(self.parts.region.as_slice(), 1)
+        first_word(&self.parts, 1)
     }
 
     /// The word of true.
@@ -124,7 +155,7 @@ impl Heap {
         ensures word { result ≡ word_of (first (store self.now) 2) }
         ensures good { IsGood self.now result }
     {
-        first_word(self.parts.region.as_slice(), 2)
+        first_word(&self.parts, 2)
     }
 
     /// The word of the special objects array.
@@ -140,19 +171,18 @@ impl Heap {
     pub fn follow(&self, word: u64) -> u64
         requires good { IsGood self.now word }
         ensures followed { follows self.now word result }
-        ensures value { heap_value self.now.words result ≡ heap_value self.now.words word }
+        ensures value { heap_value self.now result ≡ heap_value self.now word }
         ensures good { IsGood self.now result }
     {
-        follow_word(self.parts.region.as_slice(), word)
+        follow_word(&self.parts, word)
     }
 
-    /// The word of the class of an index, followed: that of nil where the class table has no entry there.
+    /// The word of the class of an index, followed: that of nil where the class table has no entry there, as at each index from 2^22 on.
     pub fn class_at(&self, index: u32) -> u64
-        requires index { index < 2 ^ 22 }
         ensures class { class_word self.now index result }
         ensures good { IsGood self.now result }
     {
-        class_word(self.parts.region.as_slice(), index as usize)
+        class_word(&self.parts, index as usize)
     }
 
     /// The word of a handle of this mutator, if it is held.

@@ -1,21 +1,9 @@
-use Rattle.std.proofs.Common.{rules, ◌≡◌, ◌+◌, Result, Ok, Err}
-use Rattle.object_header.specs.declared.head.HeadError.{HeadError}
-use Rattle.heap_walk.specs.declared.chunk.Chunk.{Chunk}
-use Rattle.heap_walk.specs.Chunks.{chunk_at}
-use Rattle.heap_walk.proofs.Tiles.{tiles_first}
+use Rattle.std.proofs.Common.{rules, ◌≡◌, slice_range, Ok}
+use Rattle.object_header.specs.Head.{head_of}
+use Rattle.heap_walk.proofs.Chunks.{read_in_place}
 use Rattle.heap_walk.proofs.chunk.next_chunk.Goals as goal
 
-pub returns-in-Err-clause-tiled : goal.returns-in-Err-clause-tiled
-unfolding chunk_at
-returns-in-Err-clause-tiled c =
-    let answer : Result Chunk HeadError = Err c.in-Err.error in
-    let value : answer ≡ chunk_at c.args.region.now c.args.at c.args.end = search rules in
-    tiles_first _ _ _ c.requires.before answer value
-
-pub returns-clause-tiled : goal.returns-clause-tiled
-unfolding chunk_at
-returns-clause-tiled c =
-    let head = c.in-Ok.head in
-    let answer : Result Chunk HeadError = Ok (record { at = c.args.at; start = c.args.at + head.lead; words = head.words; kind = c.of_class.result }) in
-    let value : answer ≡ chunk_at c.args.region.now c.args.at c.args.end = search rules in
-    tiles_first _ _ _ c.requires.before answer value
+pub returns-clause-places : goal.returns-clause-places
+returns-clause-places c =
+    let ok : head_of (slice_range c.args.region.now c.args.at c.args.end) ≡ Ok c.in-Ok.head = search rules in
+    read_in_place _ _ _ _ _ c.requires.within c.requires.before ok

@@ -1,11 +1,11 @@
 use Rattle.std.proofs.Common.{◌≢◌, not, ◌&&◌, sym, ap, ◌∙◌, arith, eqb, get_or}
 use Rattle.std.specs.Prelude.{nat_lt}
 use Rattle.std.specs.List.{list_any}
+use Rattle.object_header.specs.Chunks.{slots_at}
 use Rattle.object_header.specs.Head.{format_of}
 use Rattle.heap_walk.specs.Starts.{has_start, covered}
 use Rattle.spur_graph.specs.Ordinary.{page_entries}
 use Rattle.spur_graph.specs.Cells.{first}
-use Rattle.heap_cells.specs.Rows.{slots_at}
 use Rattle.spur_graph.specs.FileStores.{file_store}
 use Rattle.image_checks.proofs.Objects.{page_array, left_within, there_covered}
 use Rattle.image_checks.proofs.Paging.{unnamed_bad, nil_good, free_test, firsts_same, left_nil, left_page, no_start}

@@ -1,5 +1,5 @@
 use Rattle.std.proofs.Common.{◌≡◌, ◌<◌, ◌≤◌, ℕ, length, get_or}
-use Rattle.spur_graph.specs.Chunks.{chunks}
+use Rattle.object_header.specs.Chunks.{chunks}
 use Rattle.spur_graph.specs.Places.{place, IsBadRoot}
 use Rattle.heap_cells.specs.Rows.{starts_of}
 use Rattle.image_checks.proofs.Placed.{GoodRoot}

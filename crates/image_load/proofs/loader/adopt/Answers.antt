@@ -1,13 +1,13 @@
-use Rattle.std.proofs.Common.{◌≡◌, ℕ, List, length, take, sym, ap, ◌∙◌, subst}
+use Rattle.std.proofs.Common.{◌≡◌, ◌+◌, ℕ, List, length, take, sym, ap, ◌∙◌, subst}
 use Rattle.spur_graph.specs.Segments.{total_words}
-use Rattle.spur_graph.specs.Heaps.{View, Stands}
+use Rattle.spur_graph.specs.Heaps.{View}
 use Rattle.spur_graph.specs.LoadedGraph.{loaded_graph, loaded_room}
 use Rattle.spur_graph.specs.FileStores.{file_store}
 use Rattle.image_settle.specs.Rooms.{IsAlone, HasRoom}
 use Rattle.image_load.specs.declared.image.Image.{Image}
 use Rattle.image_load.specs.Images.{IsImageOf, AreSettled}
 use Rattle.image_load.specs.Passes.{AreTried}
-use Rattle.image_load.proofs.Adopting.{tried, image_whole, image_stands}
+use Rattle.image_load.proofs.Adopting.{tried, view, image_whole, image_clear, image_stands, adopted_stands}
 use Rattle.image_load.proofs.loader.adopt.Goals as goal
 
 -- the words are those of the image's region, also while it is lent
@@ -25,15 +25,28 @@ still_settled image words is front word a =
 pub returns-in-Err-clause-refused : goal.returns-in-Err-clause-refused
 returns-in-Err-clause-refused c bytes i = c.in-Err.ensures.refused bytes c.args.image.bare.limits (still_tried bytes c.args.image c.region_mut-region.result.now c.region_mut-region.ensures.value i)
 
-pub adopt-requires-clause-whole : goal.adopt-requires-clause-whole
-adopt-requires-clause-whole c =
+pub adopt-heap-requires-clause-whole : goal.adopt-heap-requires-clause-whole
+adopt-heap-requires-clause-whole c =
     let image = c.args.image in
     let front : List ℕ = take (total_words image.map) c.settle_front.new.region in
     let a = still_settled image c.region_mut-region.result.now c.region_mut-region.ensures.value front c.in-Ok.special c.in-Ok.ensures.settled in
     let h = file_store image.map a.mid in
-    let Room : ℕ → Type 0 = λ n. IsAlone h (take n c.settle_front.new.region) → HasRoom h (take n c.settle_front.new.region) c.put_room.new.region image.bare.limits.room in
-    let room = subst Room c.words.ensures (c.put_room.ensures.heap h) a.alone in
+    let Room : ℕ → Type 0 = λ n. IsAlone h (take n c.settle_front.new.region) → HasRoom h (take n c.settle_front.new.region) (take (n + image.bare.limits.room) c.put_room.new.region) image.bare.limits.room in
+    let room = subst (λ n. HasRoom h front (take n c.put_room.new.region) image.bare.limits.room) c.requires.old (subst Room c.words.ensures (c.put_room.ensures.heap h) a.alone) in
     image_whole image c.requires front c.put_room.new.region c.in-Ok.special a room (c.put_room.ensures.same_len ∙ c.in-Ok.ensures.long ∙ ap length c.region_mut-region.ensures.value)
+
+pub adopt-heap-requires-clause-clear : goal.adopt-heap-requires-clause-clear
+adopt-heap-requires-clause-clear c =
+    let image = c.args.image in
+    let front : List ℕ = take (total_words image.map) c.settle_front.new.region in
+    let a = still_settled image c.region_mut-region.result.now c.region_mut-region.ensures.value front c.in-Ok.special c.in-Ok.ensures.settled in
+    let h = file_store image.map a.mid in
+    let Room : ℕ → Type 0 = λ n. IsAlone h (take n c.settle_front.new.region) → HasRoom h (take n c.settle_front.new.region) (take (n + image.bare.limits.room) c.put_room.new.region) image.bare.limits.room in
+    let room = subst (λ n. HasRoom h front (take n c.put_room.new.region) image.bare.limits.room) c.requires.old (subst Room c.words.ensures (c.put_room.ensures.heap h) a.alone) in
+    image_clear image c.requires front c.put_room.new.region c.in-Ok.special a room (c.put_room.ensures.same_len ∙ c.in-Ok.ensures.long ∙ ap length c.region_mut-region.ensures.value)
+
+pub returns-clause-unmarked : goal.returns-clause-unmarked
+returns-clause-unmarked c = ap (λ (v : View). v.phase) c.adopt-heap.ensures.rest
 
 pub returns-clause-stands : goal.returns-clause-stands
 returns-clause-stands c bytes i =
@@ -41,9 +54,20 @@ returns-clause-stands c bytes i =
     let front : List ℕ = take (total_words image.map) c.settle_front.new.region in
     let a = still_settled image c.region_mut-region.result.now c.region_mut-region.ensures.value front c.in-Ok.special c.in-Ok.ensures.settled in
     let h = file_store image.map a.mid in
-    let Room : ℕ → Type 0 = λ n. IsAlone h (take n c.settle_front.new.region) → HasRoom h (take n c.settle_front.new.region) c.put_room.new.region image.bare.limits.room in
-    let room = subst Room c.words.ensures (c.put_room.ensures.heap h) a.alone in
-    let S : View → Type 0 = λ v. Stands v (loaded_graph bytes) (loaded_room bytes image.bare.limits) in (
+    let Room : ℕ → Type 0 = λ n. IsAlone h (take n c.settle_front.new.region) → HasRoom h (take n c.settle_front.new.region) (take (n + image.bare.limits.room) c.put_room.new.region) image.bare.limits.room in
+    let room = subst (λ n. HasRoom h front (take n c.put_room.new.region) image.bare.limits.room) c.requires.old (subst Room c.words.ensures (c.put_room.ensures.heap h) a.alone) in
+    let long = c.put_room.ensures.same_len ∙ c.in-Ok.ensures.long ∙ ap length c.region_mut-region.ensures.value in
+    let v : View = view image c.requires front c.put_room.new.region c.in-Ok.special a room long in (
       c.in-Ok.ensures.accepted bytes image.bare.limits (still_tried bytes image c.region_mut-region.result.now c.region_mut-region.ensures.value i),
-      subst S (sym c.adopt.ensures) (image_stands image c.requires front c.put_room.new.region c.in-Ok.special a room (c.put_room.ensures.same_len ∙ c.in-Ok.ensures.long ∙ ap length c.region_mut-region.ensures.value) bytes i),
+      adopted_stands v c.adopt-heap.result (loaded_graph bytes) (loaded_room bytes image.bare.limits) c.adopt-heap.ensures c.whole.ensures.whole
+          (image_stands image c.requires front c.put_room.new.region c.in-Ok.special a room long bytes i),
     )
+
+pub returns-clause-fresh : goal.returns-clause-fresh
+returns-clause-fresh c = (
+  ap (λ (v : View). v.handles) c.adopt-heap.ensures.rest,
+  ap (λ (v : View). v.limits) c.adopt-heap.ensures.rest,
+)
+
+pub returns-clause-carried : goal.returns-clause-carried
+returns-clause-carried c = ap (λ (v : View). v.carried) c.adopt-heap.ensures.rest

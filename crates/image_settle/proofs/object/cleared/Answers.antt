@@ -1,6 +1,7 @@
 use Rattle.std.proofs.Common.{inl, inr, arith}
 use Rattle.object_header.specs.Fields.{fields_of}
-use Rattle.image_settle.proofs.Headers.{built, zero_unused, set_unused}
+use Rattle.heap_cells.proofs.UnusedBits.{zero_unused, set_unused}
+use Rattle.image_settle.proofs.Headers.{built}
 use Rattle.image_settle.proofs.object.cleared.Goals as goal
 
 pub returns-clause-fields : goal.returns-clause-fields

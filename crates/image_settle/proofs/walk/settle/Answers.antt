@@ -1,4 +1,4 @@
-use Rattle.image_settle.proofs.Final.{mid_row, settled, settled_row, settled_chunks, settled_clear, settled_unused}
+use Rattle.image_settle.proofs.Final.{mid_row, settled, settled_row, settled_chunks, settled_clear}
 use Rattle.image_settle.proofs.walk.settle.Goals as goal
 
 pub turn_forwarders-requires-clause-cut : goal.turn_forwarders-requires-clause-cut
@@ -22,9 +22,4 @@ returns-clause-chunks c =
 pub returns-clause-clear : goal.returns-clause-clear
 returns-clause-clear c =
     settled_clear c.args.map.now c.args.starts.now c.args.ordinary.now c.args.firsts.now c.args.words.now c.requires c.settle_chunks.new.words c.settle_chunks.ensures.same_len c.settle_chunks.ensures.cleared
-    c.turn_forwarders.new.words c.turn_forwarders.ensures.same_len c.turn_forwarders.ensures.turned
-
-pub returns-clause-unused : goal.returns-clause-unused
-returns-clause-unused c =
-    settled_unused c.args.map.now c.args.starts.now c.args.ordinary.now c.args.firsts.now c.args.words.now c.requires c.settle_chunks.new.words c.settle_chunks.ensures.same_len c.settle_chunks.ensures.cleared
     c.turn_forwarders.new.words c.turn_forwarders.ensures.same_len c.turn_forwarders.ensures.turned

@@ -1,5 +1,5 @@
 use Rattle.std.proofs.Common.{◌<◌, length, sym, subst, arith, get_or}
-use Rattle.spur_graph.specs.Chunks.{chunks}
+use Rattle.object_header.specs.Chunks.{chunks}
 use Rattle.image_references.specs.References.{HasOrdinary}
 use Rattle.image_settle.specs.Settles.{Follows, AreFirsts, IsNext, IsCleared}
 use Rattle.image_settle.proofs.Walking.{walk_starts, walk_ends}

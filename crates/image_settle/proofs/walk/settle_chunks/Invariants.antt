@@ -1,5 +1,5 @@
 use Rattle.std.proofs.Common.{◌-◌, length}
-use Rattle.spur_graph.specs.Chunks.{chunks}
+use Rattle.object_header.specs.Chunks.{chunks}
 use Rattle.image_settle.specs.Settles.{Follows, IsCleared}
 use Rattle.image_settle.proofs.Walking.{Walking}
 use Rattle.image_settle.proofs.walk.settle_chunks.Given as goal

@@ -1,5 +1,5 @@
 use Rattle.std.proofs.Common.{◌<◌, length, arith}
-use Rattle.spur_graph.specs.Chunks.{chunks}
+use Rattle.object_header.specs.Chunks.{chunks}
 use Rattle.image_settle.specs.Settles.{IsTurned}
 use Rattle.image_settle.proofs.Walking.{walk_ends}
 use Rattle.image_settle.proofs.Steps.{Spans, Turns, turns_step, turned_long, span_fits}

@@ -1,5 +1,5 @@
 use Rattle.std.proofs.Common.{◌≡◌, length}
-use Rattle.replay.specs.Sessions.{SameRun, state_in}
+use Rattle.replay.specs.Sessions.{SameRun}
 use Rattle.replay.proofs.Answering.{Passed}
 use Rattle.replay.proofs.runs.answer_piece.Given as goal
 
@@ -8,7 +8,7 @@ abbrev pub invariant-lines : goal.invariant-lines
 invariant-lines g l = record {
   run : SameRun l.fn.session l.session;
   faults : g.K.Sink.fault_count l.out ≡ g.K.Sink.fault_count l.fn.out;
-  passed : Passed (state_in l.fn.session.heap) (state_in l.session.heap) l.fn.open_line l.open_line l.piece l.rest (g.K.Sink.so_far l.fn.out) (g.K.Sink.so_far l.out);
+  passed : Passed l.fn.session l.session l.fn.open_line l.open_line l.piece l.rest (g.K.Sink.so_far l.fn.out) (g.K.Sink.so_far l.out);
 }
 
 abbrev pub decreases-lines : goal.decreases-lines

@@ -1,5 +1,5 @@
 use Rattle.std.proofs.Common.{◌≡◌, ◌-◌, ◌≤◌}
-use Rattle.replay.specs.Sessions.{SameRun, state_in}
+use Rattle.replay.specs.Sessions.{SameRun}
 use Rattle.replay.specs.Runs.{most_script_bytes}
 use Rattle.replay.proofs.Scripts.{ReadTo}
 use Rattle.replay.proofs.runs.answer_script.Given as goal
@@ -13,7 +13,7 @@ invariant-pieces g l = record {
   writes : g.F.Files.write_count l.files ≡ g.F.Files.write_count l.fn.files;
   faults : g.K.Sink.fault_count l.out ≡ g.K.Sink.fault_count l.fn.out;
   low : l.at ≤ most_script_bytes;
-  read : ReadTo (g.F.Files.told l.fn.files) (g.K.Sink.so_far l.fn.out) (state_in l.fn.session.heap) (state_in l.session.heap) l.script l.at l.open_line (g.K.Sink.so_far l.out);
+  read : ReadTo (g.F.Files.told l.fn.files) (g.K.Sink.so_far l.fn.out) l.fn.session l.session l.script l.at l.open_line (g.K.Sink.so_far l.out);
 }
 
 abbrev pub decreases-pieces : goal.decreases-pieces

@@ -1,9 +1,11 @@
 use Rattle.std.proofs.Common.{Err}
 use Rattle.script_text.specs.Reading.{ReadsLine}
 use Rattle.script_text.specs.declared.line.Syntax.TheVariants as faults
+use Rattle.spur_graph.specs.declared.answer.Answer.TheVariants as answers
+use Rattle.spur_graph.specs.declared.answer.Refusal.TheVariants as r
 use Rattle.spur_graph.specs.Form.{view}
-use Rattle.replay.specs.Sessions.{state_in}
-use Rattle.replay.proofs.Steps.{long_answer, syntax_answer, done_replies, refused_replies}
+use Rattle.replay.specs.Sessions.{over}
+use Rattle.replay.proofs.Steps.{stays, long_answer, syntax_answer, done_replies, refused_replies}
 use Rattle.replay.proofs.session.try_line.Goals as goal
 
 pub returns-in-Ok-clause-done : goal.returns-in-Ok-clause-done
@@ -16,9 +18,9 @@ returns-in-Ok-clause-refused c =
 
 pub returns-in-Err-Long-clause-refused : goal.returns-in-Err-Long-clause-refused
 returns-in-Err-Long-clause-refused c =
-    λ files script line stands. long_answer (state_in c.args.heap.now files script) c.args.bytes.now line (rw c.in-Err-Long.field-0-is at c.in-Err-Long.ensures) stands
+    stays c.args.heap.now c.args.bytes.now (answers.Refused r.Long) (λ s line stands. long_answer (over c.args.heap.now s) c.args.bytes.now line (rw c.in-Err-Long.field-0-is at c.in-Err-Long.ensures) stands)
 
 pub returns-in-Err-Bad-clause-refused : goal.returns-in-Err-Bad-clause-refused
 returns-in-Err-Bad-clause-refused c =
     let none : ReadsLine (Err faults.Bad) c.args.bytes.now = rw c.in-Err-Bad.field-0-is at c.in-Err-Bad.ensures in
-    λ files script line stands. syntax_answer (state_in c.args.heap.now files script) c.args.bytes.now line none.0 stands none.1
+    stays c.args.heap.now c.args.bytes.now (answers.Refused r.Syntax) (λ s line stands. syntax_answer (over c.args.heap.now s) c.args.bytes.now line none.0 stands none.1)

@@ -1,12 +1,11 @@
-use Rattle.std.proofs.Common.{sym, ◌∙◌, arith}
+use Rattle.std.proofs.Common.{ap, sym, ◌∙◌, arith}
+use Rattle.object_header.specs.Head.{format_of}
+use Rattle.spur_heap.specs.Parts.{view_of}
 use Rattle.spur_heap.proofs.SlotCounts.{at_start, format_read}
 use Rattle.spur_heap.proofs.slots.format_of.Goals as goal
 
-pub offset_bounds-words-start : goal.offset_bounds-words-start
-offset_bounds-words-start c = omega (arith, (at_start c.args.words.now c.requires.sound c.args.start c.requires.there).below)
-
-pub bounds-words-start : goal.bounds-words-start
-bounds-words-start c = omega (arith, (at_start c.args.words.now c.requires.sound c.args.start c.requires.there).below)
+pub get-requires : goal.get-requires
+get-requires c = omega (arith, (at_start (view_of c.args.parts.now) c.requires.sound c.args.start c.requires.there).below)
 
 pub returns : goal.returns
-returns c = c.new.ensures ∙ c.format.ensures.value ∙ sym (format_read c.args.words.now c.requires.sound c.args.start c.requires.there)
+returns c = c.new.ensures ∙ c.format.ensures.value ∙ ap format_of c.get.ensures ∙ sym (format_read (view_of c.args.parts.now) c.requires.sound c.args.start c.requires.there)

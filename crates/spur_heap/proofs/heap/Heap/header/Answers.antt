@@ -1,8 +1,8 @@
 use Rattle.std.proofs.Common.{◌≡◌, ◌<◌, ℕ, ap, sym, ◌∙◌, subst, arith, length, get_or}
+use Rattle.object_header.specs.Chunks.{slots_from}
 use Rattle.object_header.specs.Fields.{fields_of}
 use Rattle.spur_graph.specs.Cells.{Body, body_from}
 use Rattle.spur_graph.specs.Heaps.{View, IsWhole}
-use Rattle.heap_cells.specs.Rows.{slots_from}
 use Rattle.spur_heap.specs.Parts.{view_of}
 use Rattle.spur_heap.specs.Views.{IsOrdinary, node_in}
 use Rattle.spur_heap.proofs.Nodes.{HasFields}

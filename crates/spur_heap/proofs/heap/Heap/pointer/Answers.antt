@@ -27,7 +27,7 @@ pub returns-clause-value : goal.returns-clause-value
 returns-clause-value c =
     let whole : IsWhole c.args.self.now = subst (λ (v : View). IsWhole v) c.self.view_is c.self.invariant.whole in
     let word : c.get.result ≡ get_or c.args.self.now.words (c.args.start + 1 + c.args.i) 0 = c.get.ensures ∙ ap (λ (v : View). get_or v.words (c.args.start + 1 + c.args.i) 0) c.self.view_is in
-    ap (heap_value c.args.self.now.words) word ∙ pointer_value c.args.self.now whole c.args.start c.requires.there c.args.i c.requires.within (heap_value c.args.self.now.words 0)
+    ap (heap_value c.args.self.now) word ∙ pointer_value c.args.self.now whole c.args.start c.requires.there c.args.i c.requires.within (heap_value c.args.self.now 0)
 
 pub returns-clause-good : goal.returns-clause-good
 returns-clause-good c =

@@ -1,10 +1,18 @@
-use Rattle.std.proofs.Common.{◌+◌, ◌<◌, ap, sym, ◌∙◌, subst, arith, length, set}
+use Rattle.std.proofs.Common.{◌≡◌, ◌<◌, ap, sym, ◌∙◌, subst, arith, length}
 use Rattle.spur_graph.specs.Heaps.{View, IsWhole, heap_value, heap_graph, heap_room}
-use Rattle.spur_heap.specs.Parts.{view_of}
-use Rattle.spur_heap.specs.Views.{IsOrdinary, IsGood, node_in}
-use Rattle.spur_heap.proofs.Written.{Write, ordinary_kept, good_kept, value_kept}
-use Rattle.spur_heap.proofs.Puts.{pointer_inside, pointer_write, pointer_node, put_after, graph_after, room_after, parts_after}
+use Rattle.spur_heap.specs.declared.heap.HeapParts.{HeapParts}
+use Rattle.spur_heap.specs.Parts.{view_of, ArePartsOfHeap}
+use Rattle.spur_heap.specs.Views.{IsOrdinary, IsGood}
+use Rattle.spur_heap.specs.Remembering.{stored}
+use Rattle.spur_heap.proofs.Puts.{start_inside, pointer_inside, parts_with}
+use Rattle.spur_heap.proofs.Storing.{remembered_for_long, stored_whole, stored_starts, stored_length, stored_seen, stored_graph, stored_room, stored_value, stored_good, stored_ordinary}
 use Rattle.spur_heap.proofs.heap.Heap.put_pointer.Goals as goal
+
+pub remember_for-requires : goal.remember_for-requires
+remember_for-requires c =
+    let whole : IsWhole c.args.self.now = subst (λ (v : View). IsWhole v) c.self.view_is c.self.invariant.whole in
+    let low = start_inside c.args.self.now whole c.args.start c.requires.there in
+    record { inside = subst (λ (v : View). c.args.start < length v.words) (sym c.self.view_is) (omega (arith, low)) }
 
 pub overflow_add-start : goal.overflow_add-start
 overflow_add-start c =
@@ -23,46 +31,47 @@ overflow_add-start-2 c =
 pub put-requires : goal.put-requires
 put-requires c =
     let whole : IsWhole c.args.self.now = subst (λ (v : View). IsWhole v) c.self.view_is c.self.invariant.whole in
-    subst (λ (v : View). c.args.start + 1 + c.args.i < length v.words) (sym c.self.view_is) (pointer_inside c.args.self.now whole c.args.start c.requires.there c.args.i c.requires.within)
+    let far = pointer_inside c.args.self.now whole c.args.start c.requires.there c.args.i c.requires.within in
+    let long : length c.remember_for.new.parts.region ≡ length c.args.self.now.words =
+    ap (λ (p : HeapParts). length p.region) c.remember_for.ensures ∙ remembered_for_long (view_of c.self.inside.parts) c.args.start c.args.word ∙ ap (λ (v : View). length v.words) c.self.view_is in
+    omega (arith, far, long)
+
+pub returns-clause-written : goal.returns-clause-written
+returns-clause-written c =
+    stored_seen c.self.inside.parts c.args.self.now c.self.view_is c.args.start c.args.i c.args.word c.remember_for.new.parts c.remember_for.ensures c.put.new.self c.put.ensures
 
 pub invariant_of-self : goal.invariant_of-self
 invariant_of-self c =
-    let whole : IsWhole c.args.self.now = subst (λ (v : View). IsWhole v) c.self.view_is c.self.invariant.whole in
-    let write : Write c.args.self.now.words c.args.start c.args.i c.args.word = pointer_write c.args.self.now whole c.args.start c.requires.there c.args.i c.requires.within c.args.word c.requires.no_literals c.requires.good in
-    parts_after c.self.inside.parts c.self.invariant c.args.start c.args.i c.args.word (subst (λ (v : View). Write v.words c.args.start c.args.i c.args.word) (sym c.self.view_is) write) c.put.new.self c.put.ensures
+    let v = c.args.self.now in
+    let whole : IsWhole v = subst (λ (u : View). IsWhole u) c.self.view_is c.self.invariant.whole in
+    let seen = ap (λ (p : HeapParts). view_of (record p { region = c.put.new.self })) (sym c.remember_for.ensures) ∙ returns-clause-written c in
+    subst (λ (p : HeapParts). ArePartsOfHeap (record p { region = c.put.new.self })) (sym c.remember_for.ensures)
+    (parts_with c.self.inside.parts c.self.invariant v (stored v c.args.start c.args.i c.args.word) c.self.view_is c.put.new.self seen
+    (stored_whole v whole c.args.start c.requires.there c.args.word c.args.i c.requires.within c.requires.no_literals c.requires.good)
+    (stored_starts v whole c.args.start c.requires.there c.args.word c.args.i c.requires.within c.requires.no_literals c.requires.good)
+    (stored_length v whole c.args.start c.requires.there c.args.word c.args.i c.requires.within c.requires.no_literals c.requires.good))
 
 pub returns-clause-graph : goal.returns-clause-graph
 returns-clause-graph c =
     let whole : IsWhole c.args.self.now = subst (λ (v : View). IsWhole v) c.self.view_is c.self.invariant.whole in
-    let write : Write c.args.self.now.words c.args.start c.args.i c.args.word = pointer_write c.args.self.now whole c.args.start c.requires.there c.args.i c.requires.within c.args.word c.requires.no_literals c.requires.good in
-    let same = put_after (view_of c.self.inside.parts) c.args.self.now c.self.view_is c.put.new.self (c.args.start + 1 + c.args.i) c.args.word c.put.ensures in
-    ap heap_graph same ∙ graph_after c.args.self.now c.args.start c.args.i c.args.word write (record (node_in c.args.self.now c.args.start) { pointers = set (node_in c.args.self.now c.args.start).pointers c.args.i (heap_value c.args.self.now.words c.args.word) })
-    (pointer_node c.args.self.now whole c.args.start c.requires.there c.args.i c.requires.within c.args.word write)
+    ap heap_graph (returns-clause-written c) ∙ stored_graph c.args.self.now whole c.args.start c.requires.there c.args.word c.args.i c.requires.within c.requires.no_literals c.requires.good
 
 pub returns-clause-room : goal.returns-clause-room
 returns-clause-room c =
     let whole : IsWhole c.args.self.now = subst (λ (v : View). IsWhole v) c.self.view_is c.self.invariant.whole in
-    let write : Write c.args.self.now.words c.args.start c.args.i c.args.word = pointer_write c.args.self.now whole c.args.start c.requires.there c.args.i c.requires.within c.args.word c.requires.no_literals c.requires.good in
-    let same = put_after (view_of c.self.inside.parts) c.args.self.now c.self.view_is c.put.new.self (c.args.start + 1 + c.args.i) c.args.word c.put.ensures in
-    ap heap_room same ∙ room_after c.args.self.now c.args.start c.args.i c.args.word write
+    ap heap_room (returns-clause-written c) ∙ stored_room c.args.self.now whole c.args.start c.requires.there c.args.word c.args.i c.requires.within c.requires.no_literals c.requires.good
 
 pub returns-clause-values : goal.returns-clause-values
 returns-clause-values c u =
     let whole : IsWhole c.args.self.now = subst (λ (v : View). IsWhole v) c.self.view_is c.self.invariant.whole in
-    let write : Write c.args.self.now.words c.args.start c.args.i c.args.word = pointer_write c.args.self.now whole c.args.start c.requires.there c.args.i c.requires.within c.args.word c.requires.no_literals c.requires.good in
-    let same = put_after (view_of c.self.inside.parts) c.args.self.now c.self.view_is c.put.new.self (c.args.start + 1 + c.args.i) c.args.word c.put.ensures in
-    ap (λ (v : View). heap_value v.words u) same ∙ value_kept c.args.self.now.words c.args.start c.args.i c.args.word write u
+    ap (λ (v : View). heap_value v u) (returns-clause-written c) ∙ stored_value c.args.self.now whole c.args.start c.requires.there c.args.word c.args.i c.requires.within c.requires.no_literals c.requires.good u
 
 pub returns-clause-goods : goal.returns-clause-goods
 returns-clause-goods c u good =
     let whole : IsWhole c.args.self.now = subst (λ (v : View). IsWhole v) c.self.view_is c.self.invariant.whole in
-    let write : Write c.args.self.now.words c.args.start c.args.i c.args.word = pointer_write c.args.self.now whole c.args.start c.requires.there c.args.i c.requires.within c.args.word c.requires.no_literals c.requires.good in
-    let same = put_after (view_of c.self.inside.parts) c.args.self.now c.self.view_is c.put.new.self (c.args.start + 1 + c.args.i) c.args.word c.put.ensures in
-    subst (λ (v : View). IsGood v u) (sym same) (good_kept c.args.self.now.words c.args.start c.args.i c.args.word write u ∙ good)
+    subst (λ (v : View). IsGood v u) (sym (returns-clause-written c)) (stored_good c.args.self.now whole c.args.start c.requires.there c.args.word c.args.i c.requires.within c.requires.no_literals c.requires.good u good)
 
 pub returns-clause-ordinary : goal.returns-clause-ordinary
 returns-clause-ordinary c t there =
     let whole : IsWhole c.args.self.now = subst (λ (v : View). IsWhole v) c.self.view_is c.self.invariant.whole in
-    let write : Write c.args.self.now.words c.args.start c.args.i c.args.word = pointer_write c.args.self.now whole c.args.start c.requires.there c.args.i c.requires.within c.args.word c.requires.no_literals c.requires.good in
-    let same = put_after (view_of c.self.inside.parts) c.args.self.now c.self.view_is c.put.new.self (c.args.start + 1 + c.args.i) c.args.word c.put.ensures in
-    subst (λ (v : View). IsOrdinary v t) (sym same) (ordinary_kept c.args.self.now.words c.args.start c.args.i c.args.word write t ∙ there)
+    subst (λ (v : View). IsOrdinary v t) (sym (returns-clause-written c)) (stored_ordinary c.args.self.now whole c.args.start c.requires.there c.args.word c.args.i c.requires.within c.requires.no_literals c.requires.good t there)

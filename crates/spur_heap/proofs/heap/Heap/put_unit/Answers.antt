@@ -1,138 +1,67 @@
-use Rattle.std.proofs.Common.{◌≡◌, ◌+◌, ◌<◌, ◌*◌, ◌/◌, ◌%◌, ◌^◌, ℕ, ap, sym, ◌∙◌, subst, arith, get_or, set}
-use Rattle.object_header.specs.Field.{with_field}
+use Rattle.std.proofs.Common.{◌≡◌, ◌<◌, ◌*◌, ◌^◌, ap, sym, ◌∙◌, subst, arith}
+use Rattle.std.proofs.lemmas.List.{length-set}
 use Rattle.object_header.specs.Formats.{unit_bytes_of}
-use Rattle.spur_graph.specs.Cells.{pointer_count, unit_count}
+use Rattle.spur_graph.specs.Cells.{unit_count}
 use Rattle.spur_graph.specs.Heaps.{View, IsWhole, heap_value, heap_graph, heap_room}
 use Rattle.spur_heap.specs.Parts.{view_of}
 use Rattle.spur_heap.specs.Sizes.{IsSize}
 use Rattle.spur_heap.specs.Words.{body_in, unit_bytes_in, unit_place, unit_word}
-use Rattle.spur_heap.specs.Views.{IsOrdinary, IsGood, node_in}
-use Rattle.spur_heap.proofs.Written.{Write, ordinary_kept, good_kept, value_kept}
-use Rattle.spur_heap.proofs.Puts.{units_count, unit_size, unit_write, unit_node, fields_are, after, put_after, graph_after, room_after, parts_after}
+use Rattle.spur_heap.specs.Views.{IsOrdinary, IsGood}
+use Rattle.spur_heap.specs.Remembering.{after}
+use Rattle.spur_heap.proofs.Puts.{units_count, unit_size, fields_are, parts_with, unit_seen, unit_whole, unit_starts, unit_graph, unit_room, unit_values, unit_goods, unit_ordinary}
 use Rattle.spur_heap.proofs.heap.Heap.put_unit.Goals as goal
 
 pub unit_place_of-at-requires-clause-within : goal.unit_place_of-at-requires-clause-within
 unit_place_of-at-requires-clause-within c =
     let whole : IsWhole c.args.self.now = subst (λ (v : View). IsWhole v) c.self.view_is c.self.invariant.whole in
-    let words : c.as_slice-words.result.now ≡ c.args.self.now.words = c.as_slice-words.ensures ∙ ap (λ (v : View). v.words) c.self.view_is in
-    subst (λ ws. c.args.i < unit_count (body_in ws c.args.start)) (sym words) (omega (arith, c.requires.within, units_count c.args.self.now whole c.args.start c.requires.there))
+    subst (λ (v : View). c.args.i < unit_count (body_in v c.args.start)) (sym c.self.view_is) (omega (arith, c.requires.within, units_count c.args.self.now whole c.args.start c.requires.there))
 
 pub with_unit-requires-clause-size : goal.with_unit-requires-clause-size
 with_unit-requires-clause-size c =
     let whole : IsWhole c.args.self.now = subst (λ (v : View). IsWhole v) c.self.view_is c.self.invariant.whole in
-    let words : c.as_slice-words.result.now ≡ c.args.self.now.words = c.as_slice-words.ensures ∙ ap (λ (v : View). v.words) c.self.view_is in
-    let bytes : c.unit_bytes-bytes.result ≡ unit_bytes_in c.args.self.now.words c.args.start = c.unit_bytes-bytes.ensures ∙ ap unit_bytes_of (c.format_of.ensures ∙ ap (λ ws. (body_in ws c.args.start).format) words) in
+    let bytes : c.unit_bytes-bytes.result ≡ unit_bytes_in c.args.self.now c.args.start = c.unit_bytes-bytes.ensures ∙ ap unit_bytes_of (c.format_of.ensures ∙ ap (λ (v : View). (body_in v c.args.start).format) c.self.view_is) in
     subst (λ n. IsSize n) (sym bytes) (unit_size c.args.self.now whole c.args.start c.requires.there c.args.i c.requires.within)
 
 pub with_unit-requires-clause-fits : goal.with_unit-requires-clause-fits
 with_unit-requires-clause-fits c =
     let whole : IsWhole c.args.self.now = subst (λ (v : View). IsWhole v) c.self.view_is c.self.invariant.whole in
-    let words : c.as_slice-words.result.now ≡ c.args.self.now.words = c.as_slice-words.ensures ∙ ap (λ (v : View). v.words) c.self.view_is in
-    let bytes : c.unit_bytes-bytes.result ≡ unit_bytes_in c.args.self.now.words c.args.start = c.unit_bytes-bytes.ensures ∙ ap unit_bytes_of (c.format_of.ensures ∙ ap (λ ws. (body_in ws c.args.start).format) words) in
+    let bytes : c.unit_bytes-bytes.result ≡ unit_bytes_in c.args.self.now c.args.start = c.unit_bytes-bytes.ensures ∙ ap unit_bytes_of (c.format_of.ensures ∙ ap (λ (v : View). (body_in v c.args.start).format) c.self.view_is) in
     subst (λ n. c.args.value < 2 ^ (8 * n)) (sym (bytes ∙ ap unit_bytes_of (sym (fields_are c.args.self.now whole c.args.start c.requires.there).format))) c.requires.range
-
-pub invariant_of-self : goal.invariant_of-self
-invariant_of-self c =
-    let whole : IsWhole c.args.self.now = subst (λ (v : View). IsWhole v) c.self.view_is c.self.invariant.whole in
-    let words : c.as_slice-words.result.now ≡ c.args.self.now.words = c.as_slice-words.ensures ∙ ap (λ (v : View). v.words) c.self.view_is in
-    let bytes : c.unit_bytes-bytes.result ≡ unit_bytes_in c.args.self.now.words c.args.start = c.unit_bytes-bytes.ensures ∙ ap unit_bytes_of (c.format_of.ensures ∙ ap (λ ws. (body_in ws c.args.start).format) words) in
-    let at : c.unit_place_of-at.result ≡ unit_place c.args.self.now.words c.args.start c.args.i = c.unit_place_of-at.ensures.place ∙ ap (λ ws. unit_place ws c.args.start c.args.i) words in
-    let unit : c.with_unit.result ≡ unit_word c.args.self.now.words c.args.start c.args.i c.args.value = c.with_unit.ensures ∙ (λ x. with_field (8 * (c.args.i * bytes x % 8)) (8 * bytes x) (get_or (words x) (at x) 0) c.args.value) in
-    let n : ℕ = pointer_count (body_in c.args.self.now.words c.args.start) + c.args.i * unit_bytes_in c.args.self.now.words c.args.start / 8 in
-    let w : ℕ = unit_word c.args.self.now.words c.args.start c.args.i c.args.value in
-    let place : c.unit_place_of-at.result ≡ c.args.start + 1 + n = omega (arith, at) in
-    let new : c.put.new.self ≡ set c.self.inside.parts.region (c.args.start + 1 + n) w = c.put.ensures ∙ (λ x. set c.self.inside.parts.region (place x) (unit x)) in
-    let write : Write c.args.self.now.words c.args.start n w = unit_write c.args.self.now whole c.args.start c.requires.there c.args.i c.requires.within c.args.value in
-    parts_after c.self.inside.parts c.self.invariant c.args.start n w (subst (λ (v : View). Write v.words c.args.start n w) (sym c.self.view_is) write) c.put.new.self new
 
 pub returns-clause-written : goal.returns-clause-written
 returns-clause-written c =
-    let whole : IsWhole c.args.self.now = subst (λ (v : View). IsWhole v) c.self.view_is c.self.invariant.whole in
-    let words : c.as_slice-words.result.now ≡ c.args.self.now.words = c.as_slice-words.ensures ∙ ap (λ (v : View). v.words) c.self.view_is in
-    let bytes : c.unit_bytes-bytes.result ≡ unit_bytes_in c.args.self.now.words c.args.start = c.unit_bytes-bytes.ensures ∙ ap unit_bytes_of (c.format_of.ensures ∙ ap (λ ws. (body_in ws c.args.start).format) words) in
-    let at : c.unit_place_of-at.result ≡ unit_place c.args.self.now.words c.args.start c.args.i = c.unit_place_of-at.ensures.place ∙ ap (λ ws. unit_place ws c.args.start c.args.i) words in
-    let unit : c.with_unit.result ≡ unit_word c.args.self.now.words c.args.start c.args.i c.args.value = c.with_unit.ensures ∙ (λ x. with_field (8 * (c.args.i * bytes x % 8)) (8 * bytes x) (get_or (words x) (at x) 0) c.args.value) in
-    let n : ℕ = pointer_count (body_in c.args.self.now.words c.args.start) + c.args.i * unit_bytes_in c.args.self.now.words c.args.start / 8 in
-    let w : ℕ = unit_word c.args.self.now.words c.args.start c.args.i c.args.value in
-    let place : c.unit_place_of-at.result ≡ c.args.start + 1 + n = omega (arith, at) in
-    let new : c.put.new.self ≡ set c.self.inside.parts.region (c.args.start + 1 + n) w = c.put.ensures ∙ (λ x. set c.self.inside.parts.region (place x) (unit x)) in
-    let write : Write c.args.self.now.words c.args.start n w = unit_write c.args.self.now whole c.args.start c.requires.there c.args.i c.requires.within c.args.value in
-    let same = put_after (view_of c.self.inside.parts) c.args.self.now c.self.view_is c.put.new.self (c.args.start + 1 + n) w new in
-    let as_unit : c.args.start + 1 + n ≡ unit_place c.args.self.now.words c.args.start c.args.i = omega arith in
-    same ∙ ap (λ j. after c.args.self.now j w) as_unit
+    unit_seen (view_of c.self.inside.parts) c.args.self.now c.self.view_is c.args.start c.args.i c.args.value c.unit_place_of-at.result c.unit_bytes-bytes.result c.get-word.result c.with_unit.result c.put.new.self
+    c.unit_place_of-at.ensures.place (c.unit_bytes-bytes.ensures ∙ ap unit_bytes_of c.format_of.ensures) c.get-word.ensures c.with_unit.ensures c.put.ensures
+
+pub invariant_of-self : goal.invariant_of-self
+invariant_of-self c =
+    let v = c.args.self.now in
+    let whole : IsWhole v = subst (λ (u : View). IsWhole u) c.self.view_is c.self.invariant.whole in
+    let then : View = after v (unit_place v c.args.start c.args.i) (unit_word v c.args.start c.args.i c.args.value) in
+    parts_with c.self.inside.parts c.self.invariant v then c.self.view_is c.put.new.self (returns-clause-written c) (unit_whole v whole c.args.start c.requires.there c.args.i c.requires.within c.args.value)
+    (unit_starts v whole c.args.start c.requires.there c.args.i c.requires.within c.args.value) (length-set v.words (unit_place v c.args.start c.args.i) (unit_word v c.args.start c.args.i c.args.value))
 
 pub returns-clause-graph : goal.returns-clause-graph
 returns-clause-graph c =
     let whole : IsWhole c.args.self.now = subst (λ (v : View). IsWhole v) c.self.view_is c.self.invariant.whole in
-    let words : c.as_slice-words.result.now ≡ c.args.self.now.words = c.as_slice-words.ensures ∙ ap (λ (v : View). v.words) c.self.view_is in
-    let bytes : c.unit_bytes-bytes.result ≡ unit_bytes_in c.args.self.now.words c.args.start = c.unit_bytes-bytes.ensures ∙ ap unit_bytes_of (c.format_of.ensures ∙ ap (λ ws. (body_in ws c.args.start).format) words) in
-    let at : c.unit_place_of-at.result ≡ unit_place c.args.self.now.words c.args.start c.args.i = c.unit_place_of-at.ensures.place ∙ ap (λ ws. unit_place ws c.args.start c.args.i) words in
-    let unit : c.with_unit.result ≡ unit_word c.args.self.now.words c.args.start c.args.i c.args.value = c.with_unit.ensures ∙ (λ x. with_field (8 * (c.args.i * bytes x % 8)) (8 * bytes x) (get_or (words x) (at x) 0) c.args.value) in
-    let n : ℕ = pointer_count (body_in c.args.self.now.words c.args.start) + c.args.i * unit_bytes_in c.args.self.now.words c.args.start / 8 in
-    let w : ℕ = unit_word c.args.self.now.words c.args.start c.args.i c.args.value in
-    let place : c.unit_place_of-at.result ≡ c.args.start + 1 + n = omega (arith, at) in
-    let new : c.put.new.self ≡ set c.self.inside.parts.region (c.args.start + 1 + n) w = c.put.ensures ∙ (λ x. set c.self.inside.parts.region (place x) (unit x)) in
-    let write : Write c.args.self.now.words c.args.start n w = unit_write c.args.self.now whole c.args.start c.requires.there c.args.i c.requires.within c.args.value in
-    let same = put_after (view_of c.self.inside.parts) c.args.self.now c.self.view_is c.put.new.self (c.args.start + 1 + n) w new in
-    ap heap_graph same ∙ graph_after c.args.self.now c.args.start n w write (record (node_in c.args.self.now c.args.start) { units = set (node_in c.args.self.now c.args.start).units c.args.i c.args.value })
-    (unit_node c.args.self.now whole c.args.start c.requires.there c.args.i c.requires.within c.args.value c.requires.range)
+    ap heap_graph (returns-clause-written c) ∙ unit_graph c.args.self.now whole c.args.start c.requires.there c.args.i c.requires.within c.args.value c.requires.range
 
 pub returns-clause-room : goal.returns-clause-room
 returns-clause-room c =
     let whole : IsWhole c.args.self.now = subst (λ (v : View). IsWhole v) c.self.view_is c.self.invariant.whole in
-    let words : c.as_slice-words.result.now ≡ c.args.self.now.words = c.as_slice-words.ensures ∙ ap (λ (v : View). v.words) c.self.view_is in
-    let bytes : c.unit_bytes-bytes.result ≡ unit_bytes_in c.args.self.now.words c.args.start = c.unit_bytes-bytes.ensures ∙ ap unit_bytes_of (c.format_of.ensures ∙ ap (λ ws. (body_in ws c.args.start).format) words) in
-    let at : c.unit_place_of-at.result ≡ unit_place c.args.self.now.words c.args.start c.args.i = c.unit_place_of-at.ensures.place ∙ ap (λ ws. unit_place ws c.args.start c.args.i) words in
-    let unit : c.with_unit.result ≡ unit_word c.args.self.now.words c.args.start c.args.i c.args.value = c.with_unit.ensures ∙ (λ x. with_field (8 * (c.args.i * bytes x % 8)) (8 * bytes x) (get_or (words x) (at x) 0) c.args.value) in
-    let n : ℕ = pointer_count (body_in c.args.self.now.words c.args.start) + c.args.i * unit_bytes_in c.args.self.now.words c.args.start / 8 in
-    let w : ℕ = unit_word c.args.self.now.words c.args.start c.args.i c.args.value in
-    let place : c.unit_place_of-at.result ≡ c.args.start + 1 + n = omega (arith, at) in
-    let new : c.put.new.self ≡ set c.self.inside.parts.region (c.args.start + 1 + n) w = c.put.ensures ∙ (λ x. set c.self.inside.parts.region (place x) (unit x)) in
-    let write : Write c.args.self.now.words c.args.start n w = unit_write c.args.self.now whole c.args.start c.requires.there c.args.i c.requires.within c.args.value in
-    let same = put_after (view_of c.self.inside.parts) c.args.self.now c.self.view_is c.put.new.self (c.args.start + 1 + n) w new in
-    ap heap_room same ∙ room_after c.args.self.now c.args.start n w write
+    ap heap_room (returns-clause-written c) ∙ unit_room c.args.self.now whole c.args.start c.requires.there c.args.i c.requires.within c.args.value
 
 pub returns-clause-values : goal.returns-clause-values
-returns-clause-values c u =
+returns-clause-values c w =
     let whole : IsWhole c.args.self.now = subst (λ (v : View). IsWhole v) c.self.view_is c.self.invariant.whole in
-    let words : c.as_slice-words.result.now ≡ c.args.self.now.words = c.as_slice-words.ensures ∙ ap (λ (v : View). v.words) c.self.view_is in
-    let bytes : c.unit_bytes-bytes.result ≡ unit_bytes_in c.args.self.now.words c.args.start = c.unit_bytes-bytes.ensures ∙ ap unit_bytes_of (c.format_of.ensures ∙ ap (λ ws. (body_in ws c.args.start).format) words) in
-    let at : c.unit_place_of-at.result ≡ unit_place c.args.self.now.words c.args.start c.args.i = c.unit_place_of-at.ensures.place ∙ ap (λ ws. unit_place ws c.args.start c.args.i) words in
-    let unit : c.with_unit.result ≡ unit_word c.args.self.now.words c.args.start c.args.i c.args.value = c.with_unit.ensures ∙ (λ x. with_field (8 * (c.args.i * bytes x % 8)) (8 * bytes x) (get_or (words x) (at x) 0) c.args.value) in
-    let n : ℕ = pointer_count (body_in c.args.self.now.words c.args.start) + c.args.i * unit_bytes_in c.args.self.now.words c.args.start / 8 in
-    let w : ℕ = unit_word c.args.self.now.words c.args.start c.args.i c.args.value in
-    let place : c.unit_place_of-at.result ≡ c.args.start + 1 + n = omega (arith, at) in
-    let new : c.put.new.self ≡ set c.self.inside.parts.region (c.args.start + 1 + n) w = c.put.ensures ∙ (λ x. set c.self.inside.parts.region (place x) (unit x)) in
-    let write : Write c.args.self.now.words c.args.start n w = unit_write c.args.self.now whole c.args.start c.requires.there c.args.i c.requires.within c.args.value in
-    let same = put_after (view_of c.self.inside.parts) c.args.self.now c.self.view_is c.put.new.self (c.args.start + 1 + n) w new in
-    ap (λ (v : View). heap_value v.words u) same ∙ value_kept c.args.self.now.words c.args.start n w write u
+    ap (λ (v : View). heap_value v w) (returns-clause-written c) ∙ unit_values c.args.self.now whole c.args.start c.requires.there c.args.i c.requires.within c.args.value w
 
 pub returns-clause-goods : goal.returns-clause-goods
-returns-clause-goods c u good =
+returns-clause-goods c w good =
     let whole : IsWhole c.args.self.now = subst (λ (v : View). IsWhole v) c.self.view_is c.self.invariant.whole in
-    let words : c.as_slice-words.result.now ≡ c.args.self.now.words = c.as_slice-words.ensures ∙ ap (λ (v : View). v.words) c.self.view_is in
-    let bytes : c.unit_bytes-bytes.result ≡ unit_bytes_in c.args.self.now.words c.args.start = c.unit_bytes-bytes.ensures ∙ ap unit_bytes_of (c.format_of.ensures ∙ ap (λ ws. (body_in ws c.args.start).format) words) in
-    let at : c.unit_place_of-at.result ≡ unit_place c.args.self.now.words c.args.start c.args.i = c.unit_place_of-at.ensures.place ∙ ap (λ ws. unit_place ws c.args.start c.args.i) words in
-    let unit : c.with_unit.result ≡ unit_word c.args.self.now.words c.args.start c.args.i c.args.value = c.with_unit.ensures ∙ (λ x. with_field (8 * (c.args.i * bytes x % 8)) (8 * bytes x) (get_or (words x) (at x) 0) c.args.value) in
-    let n : ℕ = pointer_count (body_in c.args.self.now.words c.args.start) + c.args.i * unit_bytes_in c.args.self.now.words c.args.start / 8 in
-    let w : ℕ = unit_word c.args.self.now.words c.args.start c.args.i c.args.value in
-    let place : c.unit_place_of-at.result ≡ c.args.start + 1 + n = omega (arith, at) in
-    let new : c.put.new.self ≡ set c.self.inside.parts.region (c.args.start + 1 + n) w = c.put.ensures ∙ (λ x. set c.self.inside.parts.region (place x) (unit x)) in
-    let write : Write c.args.self.now.words c.args.start n w = unit_write c.args.self.now whole c.args.start c.requires.there c.args.i c.requires.within c.args.value in
-    let same = put_after (view_of c.self.inside.parts) c.args.self.now c.self.view_is c.put.new.self (c.args.start + 1 + n) w new in
-    subst (λ (v : View). IsGood v u) (sym same) (good_kept c.args.self.now.words c.args.start n w write u ∙ good)
+    subst (λ (v : View). IsGood v w) (sym (returns-clause-written c)) (unit_goods c.args.self.now whole c.args.start c.requires.there c.args.i c.requires.within c.args.value w good)
 
 pub returns-clause-ordinary : goal.returns-clause-ordinary
 returns-clause-ordinary c t there =
     let whole : IsWhole c.args.self.now = subst (λ (v : View). IsWhole v) c.self.view_is c.self.invariant.whole in
-    let words : c.as_slice-words.result.now ≡ c.args.self.now.words = c.as_slice-words.ensures ∙ ap (λ (v : View). v.words) c.self.view_is in
-    let bytes : c.unit_bytes-bytes.result ≡ unit_bytes_in c.args.self.now.words c.args.start = c.unit_bytes-bytes.ensures ∙ ap unit_bytes_of (c.format_of.ensures ∙ ap (λ ws. (body_in ws c.args.start).format) words) in
-    let at : c.unit_place_of-at.result ≡ unit_place c.args.self.now.words c.args.start c.args.i = c.unit_place_of-at.ensures.place ∙ ap (λ ws. unit_place ws c.args.start c.args.i) words in
-    let unit : c.with_unit.result ≡ unit_word c.args.self.now.words c.args.start c.args.i c.args.value = c.with_unit.ensures ∙ (λ x. with_field (8 * (c.args.i * bytes x % 8)) (8 * bytes x) (get_or (words x) (at x) 0) c.args.value) in
-    let n : ℕ = pointer_count (body_in c.args.self.now.words c.args.start) + c.args.i * unit_bytes_in c.args.self.now.words c.args.start / 8 in
-    let w : ℕ = unit_word c.args.self.now.words c.args.start c.args.i c.args.value in
-    let place : c.unit_place_of-at.result ≡ c.args.start + 1 + n = omega (arith, at) in
-    let new : c.put.new.self ≡ set c.self.inside.parts.region (c.args.start + 1 + n) w = c.put.ensures ∙ (λ x. set c.self.inside.parts.region (place x) (unit x)) in
-    let write : Write c.args.self.now.words c.args.start n w = unit_write c.args.self.now whole c.args.start c.requires.there c.args.i c.requires.within c.args.value in
-    let same = put_after (view_of c.self.inside.parts) c.args.self.now c.self.view_is c.put.new.self (c.args.start + 1 + n) w new in
-    subst (λ (v : View). IsOrdinary v t) (sym same) (ordinary_kept c.args.self.now.words c.args.start n w write t ∙ there)
+    subst (λ (v : View). IsOrdinary v t) (sym (returns-clause-written c)) (unit_ordinary c.args.self.now whole c.args.start c.requires.there c.args.i c.requires.within c.args.value t there)

@@ -1,4 +1,4 @@
-use Rattle.std.proofs.Common.{◌≡◌, ap, sym, ◌∙◌, subst}
+use Rattle.std.proofs.Common.{ap, sym, ◌∙◌, subst}
 use Rattle.spur_graph.specs.Cells.{unit_count}
 use Rattle.spur_graph.specs.Heaps.{View, IsWhole}
 use Rattle.spur_heap.specs.Words.{body_in}
@@ -8,6 +8,5 @@ use Rattle.spur_heap.proofs.heap.Heap.unit_count.Goals as goal
 pub returns : goal.returns
 returns c =
     let whole : IsWhole c.args.self.now = subst (λ (v : View). IsWhole v) c.self.view_is c.self.invariant.whole in
-    let words : c.as_slice.result.now ≡ c.args.self.now.words = c.as_slice.ensures ∙ ap (λ (v : View). v.words) c.self.view_is in
-    c.unit_count_of.ensures ∙ ap (λ ws. unit_count (body_in ws c.args.start)) words
+    c.unit_count_of.ensures ∙ ap (λ (v : View). unit_count (body_in v c.args.start)) c.self.view_is
     ∙ sym (units_count c.args.self.now whole c.args.start c.requires.there)

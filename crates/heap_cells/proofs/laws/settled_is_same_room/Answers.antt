@@ -1,5 +1,0 @@
-use Rattle.heap_cells.proofs.SameRoom.{settled_is_same_room}
-use Rattle.heap_cells.proofs.laws.settled_is_same_room.Goals as goal
-
-pub returns : goal.returns
-returns c = settled_is_same_room
