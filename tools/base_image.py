@@ -79,9 +79,9 @@ def heap_words():
     return heap
 
 
-def header():
-    """The 128 bytes in front of the heap. What is not named is 0."""
-    heap_bytes = 8 * HEAP_WORDS
+def header(words):
+    """The 128 bytes in front of a heap of so many words. What is not named is 0."""
+    heap_bytes = 8 * words
     fields = [
         (0, "<I", SPUR_FORMAT),
         (4, "<I", HEADER_BYTES),
@@ -102,7 +102,7 @@ def main():
         sys.exit("usage: base_image.py FILE")
     heap = heap_words()
     with open(sys.argv[1], "wb") as file:
-        file.write(header() + struct.pack(f"<{len(heap)}Q", *heap))
+        file.write(header(len(heap)) + struct.pack(f"<{len(heap)}Q", *heap))
 
 
 if __name__ == "__main__":

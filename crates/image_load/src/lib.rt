@@ -6,7 +6,7 @@
 //!
 //! The layers above rest on this: a file that loads is one to which no cause applies, and the heap stands for the graph and the room of its bytes,
 //! up to names; a file that is refused is told its first cause, of the least place where it applies; and a failed read is told where one failed, and
-//! nowhere else. Loading ends for every file, in time linear in its bytes. A place is told as an offset in the file.
+//! nowhere else. Loading ends for every file. A place is told as an offset in the file.
 //!
 //! The layout is that of 64-bit Spur, image format 68021. The order of the causes is that of the definitions in `spur_graph`.
 #![tactic(auto)]

@@ -140,7 +140,7 @@ pub data IsCutShort (words : List Text) (files : Files) (before : List ℕ) (aft
       → IsKept kept (files image) limits false part.answering.last → IsCutShort words files before after kept
 
 -- what was put and which session is kept at each status, where the files and the sink tell their bytes: where lines were answered one in the state behind
--- these, and none where the words are misused, the image is refused, or nothing was put
+-- these, and none where the words are misused or the image is refused; where nothing was put and a read failed or memory was lacking, either
 pub data Outcome (words : List Text) (files : Files) (before : List ℕ) (after : Option (List ℕ)) (kept : Option SessionView) : Status → Type 0 where
   done : {image script : Text} {limits : Limits} → IsReplay words image script limits → length (files script) ≤ most_script_bytes → (all : PutsAll files image script limits (lines_of (files script)) before after)
       → IsKept kept (files image) limits false all.answering.last → Outcome words files before after kept status.Done
@@ -159,8 +159,8 @@ pub data Outcome (words : List Text) (files : Files) (before : List ℕ) (after 
 abbrev pub IsOpen : Option SessionView → Type 0
 IsOpen kept = (session : SessionView) × (kept ≡ Some session) × (session.ended ≡ false)
 
--- what is kept by the status, whatever files and sink tell: one that has not ended where the script was run, and none where the words are misused or the
--- image is refused
+-- what is kept by the status, whatever files and sink tell: a session that has not ended at 0 and 7, and none where the words are misused or the image is
+-- refused
 abbrev pub IsLeft : List Text → Status → Option SessionView → Type 0
 IsLeft words status.Usage kept = kept ≡ None
 IsLeft words status.Refused kept = kept ≡ None
@@ -168,7 +168,7 @@ IsLeft words status.Done kept = IsOpen kept
 IsLeft words status.TooLong kept = IsOpen kept
 IsLeft words other kept = IsMisused words → kept ≡ None
 
--- the usage line is put exactly where the words are in no known form, whatever files and sink tell
+-- status 2 comes only where the words are in no known form, and every other but 5 and 6 only where they are in one, whatever files and sink tell
 abbrev pub Judges : List Text → Status → Type 0
 Judges words status.Usage = IsMisused words
 Judges words status.WriteFault = Unit {0}

@@ -2,8 +2,9 @@
 //!
 //! A [`Session`] is the heap of an image, and the name of the script that is run on it. Its lines are steps of the object graph machine,
 //! from the graph of the image up to names: [`run`] reads the script in pieces, answers each line as soon as it has read its line feed,
-//! and puts each answer before it reads on. Whoever starts the program rests on the clauses of [`run`] alone: they say, by the status,
-//! which bytes were put, why there are no more, and which state the session is left in.
+//! and puts each answer before it reads on; that it does so in this order is tested, and no clause. Whoever starts the program rests on
+//! the clauses of [`run`]: where store and sink tell their bytes, they say by the status which bytes were put, and in which state a
+//! session is that is left.
 #![tactic(auto)]
 
 mod commands;

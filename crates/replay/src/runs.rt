@@ -383,12 +383,12 @@ fn request_of(words: &[String]) -> Option<Request>
 }
 
 /// Runs the program with these words, which are without its name: `replay IMAGE SCRIPT` loads the image and answers the script's
-/// lines, one by one, while it reads the script. Each answer is put before more of the script is read.
+/// lines, one by one, while it reads the script. Each answer is put before more of the script is read (tested, no clause).
 ///
 /// Behind these words may stand `--room` and a number of words, 0 or 2 to 2^26: as much room as the heap has for further objects, 2^20
 /// words where it is not told.
 ///
-/// The session is kept as the lines have left it, if the image was loaded.
+/// Where lines were answered the session is kept as they have left it; none is where the words are misused or the image is refused.
 pub fn run<F: Files, K: Sink>(
     alloc: Global,
     words: &[String],

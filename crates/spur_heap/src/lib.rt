@@ -3,14 +3,15 @@
 //! A [`Heap`] has one invariant, `IsWhole` of its view, and the layers above rest on these clauses of it:
 //! - `spaces`, `rows`: old space, eden and two survivor spaces stand one behind another. Old space, the used part of eden and the used part of past
 //!   space are each cut into chunks without a rest; words of no chunk may stand between them;
-//! - `sound`, `held`, `special_there`, `mourners`: the chunks stand for a graph. Each slot, each handle, the special objects word, each mourner and each
-//!   entry of the class table leads to an ordinary object, so that whoever is handed a heap may follow any word of it without a test;
+//! - `sound`, `held`, `special_there`, `mourners`: the chunks stand for a graph. Each pointer slot of an ordinary object and each handle has an immediate
+//!   or leads to an ordinary object; the special objects word, each mourner and each entry of the class table leads to one. So whoever is handed a heap
+//!   may follow these words without a test;
 //! - `inner`, `young`: internal objects and free chunks stand in old space, and nothing in new space is pinned;
 //! - `remembered`: what stands in old space and names new space has the remembered bit, but for the free lists object, and no free chunk and nothing in
 //!   new space has it;
 //! - `bits`: no header has a grey bit or a bit of no field, and where the phase is `Whole` none has a mark bit.
 //!
-//! What reads words here asks for `spaces`, `rows` and `sound` alone, and so serves between two steps of a write as well.
+//! What reads words here asks for `spaces`, `rows`, `sound` and `few` alone, and so serves between two steps of a write as well.
 //!
 //! Forwarders may stand in a heap; to follow a word is to go from forwarder to forwarder until an object stands there, the partial read barrier of
 //! Miranda and Béra (ISMM 2015). The layout is that of Spur's 64-bit object memory, with indices of words in place of byte addresses.

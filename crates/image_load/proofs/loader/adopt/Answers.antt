@@ -5,7 +5,8 @@ use Rattle.spur_graph.specs.LoadedGraph.{loaded_graph, loaded_room}
 use Rattle.spur_graph.specs.FileStores.{file_store}
 use Rattle.image_settle.specs.Rooms.{IsAlone, HasRoom}
 use Rattle.image_load.specs.declared.image.Image.{Image}
-use Rattle.image_load.specs.Images.{IsImageOf, AreSettled}
+use Rattle.spur_graph.specs.Cells.{Store}
+use Rattle.image_load.specs.Images.{IsImageOf, IsSoundImage, AreSettled}
 use Rattle.image_load.specs.Passes.{AreTried}
 use Rattle.image_load.proofs.Adopting.{tried, view, image_whole, image_clear, image_stands, adopted_stands}
 use Rattle.image_load.proofs.loader.adopt.Goals as goal
@@ -22,6 +23,16 @@ still_settled image words is front word a =
     let Settled : List ℕ → Type 0 = λ region. AreSettled image.map (take (total_words image.map) region) front image.header.special word in
     subst Settled is a
 
+-- the room stands behind the words of the segments, up to the end of old space
+room_behind : (image : Image) → IsSoundImage image → (at : ℕ) (before after : List ℕ) (h : Store) → at ≡ total_words image.map
+    → (IsAlone h (take at before) → HasRoom h (take at before) (take (at + image.bare.limits.room) after) image.bare.limits.room)
+    → IsAlone h (take (total_words image.map) before) → HasRoom h (take (total_words image.map) before) (take image.bare.old_end after) image.bare.limits.room
+room_behind image sound at before after h is put alone =
+    let front : List ℕ = take (total_words image.map) before in
+    let room : ℕ = image.bare.limits.room in
+    let Room : ℕ → Type 0 = λ n. IsAlone h (take n before) → HasRoom h (take n before) (take (n + room) after) room in
+    subst (λ n. HasRoom h front (take n after) room) sound.old (subst Room is put alone)
+
 pub returns-in-Err-clause-refused : goal.returns-in-Err-clause-refused
 returns-in-Err-clause-refused c bytes i = c.in-Err.ensures.refused bytes c.args.image.bare.limits (still_tried bytes c.args.image c.region_mut-region.result.now c.region_mut-region.ensures.value i)
 
@@ -31,8 +42,7 @@ adopt-heap-requires-clause-whole c =
     let front : List ℕ = take (total_words image.map) c.settle_front.new.region in
     let a = still_settled image c.region_mut-region.result.now c.region_mut-region.ensures.value front c.in-Ok.special c.in-Ok.ensures.settled in
     let h = file_store image.map a.mid in
-    let Room : ℕ → Type 0 = λ n. IsAlone h (take n c.settle_front.new.region) → HasRoom h (take n c.settle_front.new.region) (take (n + image.bare.limits.room) c.put_room.new.region) image.bare.limits.room in
-    let room = subst (λ n. HasRoom h front (take n c.put_room.new.region) image.bare.limits.room) c.requires.old (subst Room c.words.ensures (c.put_room.ensures.heap h) a.alone) in
+    let room = room_behind image c.requires c.words.result c.settle_front.new.region c.put_room.new.region h c.words.ensures (c.put_room.ensures.heap h) a.alone in
     image_whole image c.requires front c.put_room.new.region c.in-Ok.special a room (c.put_room.ensures.same_len ∙ c.in-Ok.ensures.long ∙ ap length c.region_mut-region.ensures.value)
 
 pub adopt-heap-requires-clause-clear : goal.adopt-heap-requires-clause-clear
@@ -41,8 +51,7 @@ adopt-heap-requires-clause-clear c =
     let front : List ℕ = take (total_words image.map) c.settle_front.new.region in
     let a = still_settled image c.region_mut-region.result.now c.region_mut-region.ensures.value front c.in-Ok.special c.in-Ok.ensures.settled in
     let h = file_store image.map a.mid in
-    let Room : ℕ → Type 0 = λ n. IsAlone h (take n c.settle_front.new.region) → HasRoom h (take n c.settle_front.new.region) (take (n + image.bare.limits.room) c.put_room.new.region) image.bare.limits.room in
-    let room = subst (λ n. HasRoom h front (take n c.put_room.new.region) image.bare.limits.room) c.requires.old (subst Room c.words.ensures (c.put_room.ensures.heap h) a.alone) in
+    let room = room_behind image c.requires c.words.result c.settle_front.new.region c.put_room.new.region h c.words.ensures (c.put_room.ensures.heap h) a.alone in
     image_clear image c.requires front c.put_room.new.region c.in-Ok.special a room (c.put_room.ensures.same_len ∙ c.in-Ok.ensures.long ∙ ap length c.region_mut-region.ensures.value)
 
 pub returns-clause-unmarked : goal.returns-clause-unmarked
@@ -54,8 +63,7 @@ returns-clause-stands c bytes i =
     let front : List ℕ = take (total_words image.map) c.settle_front.new.region in
     let a = still_settled image c.region_mut-region.result.now c.region_mut-region.ensures.value front c.in-Ok.special c.in-Ok.ensures.settled in
     let h = file_store image.map a.mid in
-    let Room : ℕ → Type 0 = λ n. IsAlone h (take n c.settle_front.new.region) → HasRoom h (take n c.settle_front.new.region) (take (n + image.bare.limits.room) c.put_room.new.region) image.bare.limits.room in
-    let room = subst (λ n. HasRoom h front (take n c.put_room.new.region) image.bare.limits.room) c.requires.old (subst Room c.words.ensures (c.put_room.ensures.heap h) a.alone) in
+    let room = room_behind image c.requires c.words.result c.settle_front.new.region c.put_room.new.region h c.words.ensures (c.put_room.ensures.heap h) a.alone in
     let long = c.put_room.ensures.same_len ∙ c.in-Ok.ensures.long ∙ ap length c.region_mut-region.ensures.value in
     let v : View = view image c.requires front c.put_room.new.region c.in-Ok.special a room long in (
       c.in-Ok.ensures.accepted bytes image.bare.limits (still_tried bytes image c.region_mut-region.result.now c.region_mut-region.ensures.value i),

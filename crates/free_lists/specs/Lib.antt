@@ -1,0 +1,4 @@
+pub mod Runs
+pub mod Trees
+pub mod Lists
+pub mod Rows

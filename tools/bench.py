@@ -1,0 +1,128 @@
+#!/usr/bin/env python3
+"""Times ./spur: python3 tools/bench.py [--runs N] [--only NAME,..] [--program PATH]
+
+Makes images and scripts in a folder of its own, runs each workload by turns with what bounds it from below (`cat` of the
+image, `wc -l` of the script), and prints the median time, the bytes or lines per second, and the most memory held.
+"""
+
+import argparse
+import multiprocessing
+import os
+import statistics
+import subprocess
+import tempfile
+import time
+from array import array
+
+from base_image import BASE, HEAP_WORDS, NIL, address, header, header_word, heap_words
+
+TOP = os.path.dirname(os.path.dirname(os.path.abspath(__file__)))
+MIB = 1 << 20
+
+
+def write_image(path, objects):
+    """Writes the base image with further objects behind its own: words that refer to one another by address."""
+    heap = array("Q", heap_words()[:-2]) + objects + array("Q", [0, 0])
+    with open(path, "wb") as file:
+        file.write(header(len(heap)))
+        heap.tofile(file)
+
+
+def objects(count, slots, stride):
+    """So many arrays, the first slot of each naming the one `stride` places on, the others nil."""
+    words = array("Q", [header_word(slots, 2, 51)] + [address(NIL)] * slots) * count
+    size = slots + 1
+    first = BASE + 8 * (HEAP_WORDS - 2)
+    words[1::size] = array("Q", (first + 8 * size * ((i + stride) % count) for i in range(count)))
+    return words
+
+
+def write_objects(path, count, slots, stride):
+    write_image(path, objects(count, slots, stride))
+
+
+def write_lines(path, count, front, lines):
+    """Writes a script of `count` lines: some in front, and behind them others over and over."""
+    rest = count - len(front)
+    with open(path, "w") as file:
+        file.write("".join(line + "\n" for line in front))
+        file.write("".join(line + "\n" for line in lines) * (rest // len(lines)))
+
+
+def spend(words, folder):
+    """Runs a command, and answers its seconds and the KiB that it held at most."""
+    begin = time.perf_counter()
+    with open(os.devnull, "wb") as nothing:
+        child = subprocess.Popen(words, cwd=folder, stdout=nothing)
+        _, status, usage = os.wait4(child.pid, 0)
+    if os.waitstatus_to_exitcode(status) != 0:
+        raise SystemExit(f"{' '.join(words)}: status {os.waitstatus_to_exitcode(status)}")
+    return time.perf_counter() - begin, usage.ru_maxrss
+
+
+def measure(label, words, floor, amount, unit, folder, runs):
+    """Times a command and the one that bounds it, by turns, and prints a line on it."""
+    taken, least, held = [], [], 0
+    for _ in range(runs):
+        seconds, memory = spend(words, folder)
+        taken.append(seconds)
+        held = max(held, memory)
+        least.append(spend(floor, folder)[0])
+    median = statistics.median(taken)
+    print(
+        f"{label:44} {median:7.3f} s  {amount / median:8.1f} {unit}/s  {held / 1024:7.1f} MiB held"
+        f"   {floor[0]} {statistics.median(least):6.3f} s"
+    )
+
+
+def load_images(program, folder, runs):
+    """Loads images of many objects: small ones that name their neighbours, the same with references all over, and large ones."""
+    for label, count, slots, stride in [
+        ("load 6-slot objects, near references", 2_400_000, 6, 1),
+        ("load 6-slot objects, references all over", 2_400_000, 6, 1_000_003),
+        ("load 100-slot objects", 160_000, 100, 1),
+    ]:
+        image = os.path.join(folder, "some.image")
+        # in a process of its own, since what a program holds at most is told together with what the one that starts it held
+        writer = multiprocessing.Process(target=write_objects, args=(image, count, slots, stride))
+        writer.start()
+        writer.join()
+        size = os.path.getsize(image) / MIB
+        words = [program, "replay", "some.image", "no.script", "--room", "0"]
+        measure(f"{label}, {size:.0f} MiB", words, ["cat", "some.image"], size, "MiB", folder, runs)
+        os.remove(image)
+
+
+def run_lines(program, folder, runs, count=1_000_000):
+    """Answers lines over the base image."""
+    front = ["special s", "fetch c s 3", "fetch p s 7"]
+    for label, lines in [
+        ("fetch c s 3", ["fetch c s 3"]),
+        ("fetch, store, kind, same", ["fetch c s 3", "store s 4 p", "kind c", "same c p"]),
+    ]:
+        script = os.path.join(folder, "lines.script")
+        write_lines(script, count, front, lines)
+        words = [program, "replay", "base.image", "lines.script"]
+        measure(f"{count:,} lines {label}", words, ["wc", "-l", "lines.script"], count / 1e6, "Mlines", folder, runs)
+
+
+def main():
+    parser = argparse.ArgumentParser(description=__doc__.splitlines()[0])
+    parser.add_argument("--runs", type=int, default=5)
+    parser.add_argument("--only", default="", help="load, lines")
+    parser.add_argument("--program", default=os.path.join(TOP, "spur"))
+    given = parser.parse_args()
+    program = os.path.abspath(given.program)
+    only = set(filter(None, given.only.split(",")))
+    with tempfile.TemporaryDirectory() as folder:
+        write_image(os.path.join(folder, "base.image"), array("Q"))
+        open(os.path.join(folder, "no.script"), "wb").close()
+        spend([program, "replay", "base.image", "no.script"], folder)  # builds the program where it is not built
+        if not only or "load" in only:
+            load_images(program, folder, given.runs)
+        if not only or "lines" in only:
+            run_lines(program, folder, given.runs)
+
+
+if __name__ == "__main__":
+    main()
