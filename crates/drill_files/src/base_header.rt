@@ -5,12 +5,7 @@ ghost use Rattle.spur_graph.specs.BaseImage.{base_header};
 use crate::base_words::{BASE_ADDRESS, SPECIAL_ARRAY, WORD_COUNT, address};
 use crate::puts::{put, put32, put64};
 use arrayvec::ArrayVec;
-
-/// The format of a 64-bit Spur image.
-const SPUR_FORMAT: u32 = 68_021;
-
-/// Bytes of the header.
-const HEADER_BYTES: usize = 128;
+use spur_graph::{HEADER_BYTES, SPUR_FORMAT};
 
 /// Bytes of the heap, with the bridge.
 const HEAP_BYTES: u64 = 8 * WORD_COUNT as u64;

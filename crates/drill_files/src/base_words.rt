@@ -1,6 +1,8 @@
 // The words of the base image's heap. An index counts words from the heap's first.
 ghost use Rattle.std.specs.Prelude.{◌≡◌, ◌<◌, ◌^◌, slice_index};
-ghost use Rattle.spur_graph.specs.BaseImage.{head_word, overflow_word, at, class_indices, layouts, class_at, class_word, entry, special_slot, base_word};
+ghost use Rattle.spur_graph.specs.BaseImage.{head_word, at, class_indices, layouts, class_at, class_word, entry, special_slot, base_word};
+
+use object_header::overflow_word;
 
 /// The words of the heap, with the bridge.
 pub(crate) const WORD_COUNT: usize = 6286;
@@ -43,14 +45,6 @@ fn head_word(slots: u64, hash: u64, format: u64, class: u64) -> u64
     ensures { result ≡ head_word slots hash format class }
 {
     (slots << 56) + (hash << 32) + (format << 24) + class
-}
-
-/// The word in front of the header of an object with 255 slots or more.
-fn overflow_word(slots: u64) -> u64
-    requires { slots < 2 ^ 56 }
-    ensures { result ≡ overflow_word slots }
-{
-    (255 << 56) + slots
 }
 
 /// The address of a word of the heap.

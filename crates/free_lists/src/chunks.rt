@@ -1,39 +1,11 @@
 // The head words of one free chunk.
 ghost use Rattle.std.specs.Prelude.{◌≡◌, ◌+◌, ◌^◌, ◌<◌, ◌≤◌, ℕ, length, slice_index};
-ghost use Rattle.object_header.specs.Head.{count_of, class_of, overflow_slots_of};
-ghost use Rattle.object_header.specs.declared.header.TheConstants.{FREE_CLASS, OVERFLOW_COUNT};
 ghost use Rattle.free_lists.specs.Runs.{IsFree};
 
-use object_header::{CountField, FREE_CLASS, Header, OVERFLOW_COUNT, OverflowSlotsField};
+use object_header::{
+    Header, LONGEST_SHORT, OVERFLOW_COUNT, OverflowSlotsField, free_header, overflow_word,
+};
 use spur_words::Region;
-
-/// The size of the longest free chunk whose header has the slot count itself.
-const LONGEST_SHORT: usize = 255;
-
-/// The format that free chunks have: that of words. No reader asks for it.
-const WORD_FORMAT: u64 = 9;
-
-/// The header of a free chunk with this count.
-fn free_header(count: u64) -> u64
-    requires { count < 2 ^ 8 }
-    ensures count { count_of result ≡ count }
-    ensures class { class_of result ≡ FREE_CLASS }
-{
-    Header(0)
-        .set_count(count)
-        .set_format(WORD_FORMAT)
-        .set_class(FREE_CLASS)
-        .0
-}
-
-/// The overflow word of a chunk of so many slots.
-fn overflow_word(slots: u64) -> u64
-    requires { slots < 2 ^ 56 }
-    ensures count { count_of result ≡ OVERFLOW_COUNT }
-    ensures slots { overflow_slots_of result ≡ slots }
-{
-    CountField::set(OverflowSlotsField::set(0, slots), OVERFLOW_COUNT)
-}
 
 /// Writes the head of a free chunk of `words` words. Its slots stay as they are.
 pub(crate) fn write_free(region: &mut Region, at: usize, words: usize)
@@ -46,10 +18,10 @@ pub(crate) fn write_free(region: &mut Region, at: usize, words: usize)
     ensures above { (k : ℕ) → at + words ≤ k → slice_index region.new k ≡ slice_index region.old k }
 {
     if words <= LONGEST_SHORT {
-        region.put(at, free_header(words as u64 - 1));
+        region.put(at, free_header(words as u64 - 1).0);
     } else {
         region.put(at, overflow_word(words as u64 - 2));
-        region.put(at + 1, free_header(OVERFLOW_COUNT));
+        region.put(at + 1, free_header(OVERFLOW_COUNT).0);
     }
 }
 

@@ -14,11 +14,9 @@
 #![tactic(auto)]
 
 mod index;
-mod laws;
 mod table;
 #[cfg(test)]
 mod tests;
 
 pub use index::MOST_HANDLES;
-pub use laws::{held_before, held_or_bound};
 pub use table::{HandleTable, NoMemory, TableFull};

@@ -3,31 +3,15 @@ use Rattle.std.proofs.Common.{◌≡◌, ◌≢◌, ◌⊎◌, ℕ, Bool, cond, 
 use Rattle.std.proofs.lemmas.Bool.{cases_eq, cases_lt, ne_eqb, eq-eqb}
 use Rattle.std.proofs.lemmas.List.{get_or-drop, get_or-take, ext_get_or, length-take, length-drop}
 use Rattle.std.specs.List.{Contains}
-use Rattle.object_header.specs.Chunks.{Chunk, leads, slots_told, chunk_of, IsChunk, Cuts, InOrder, slots_of, slots_at}
+use Rattle.object_header.specs.Chunks.{Chunk, leads, slots_told, chunk_of, IsChunk, Cuts, InOrder, slots_of}
 use Rattle.spur_graph.specs.Cells.{Cell, Empty, read_cell, cell_in}
 use Rattle.heap_cells.specs.Rows.{starts_of}
-use Rattle.heap_cells.specs.RowWrites.{HasChunk, ReadsCells, KeepsChunk, Rewrites}
-use Rattle.heap_cells.proofs.Members.{In, in_list, listed, chunk_of_start, start_of_chunk}
+use Rattle.heap_cells.specs.RowWrites.{ReadsCells, KeepsChunk, Rewrites}
+use Rattle.heap_cells.proofs.Members.{In, in_list, listed, start_of_chunk}
 use Rattle.heap_cells.proofs.Cutting.{first, head, stands, shape, cell-at, cell-none}
 use Rattle.heap_cells.proofs.Starts.{in_order, read_cell-is}
 
 -- ---- a start and its chunk
-
-pub has-chunk : (words : List ℕ) (end : ℕ) (cs : List Chunk) (s : ℕ) → InOrder words 0 end cs → Contains (starts_of cs) s → HasChunk words end cs s
-has-chunk words end cs s t k =
-    let r = chunk_of_start cs s (in_list (starts_of cs) s k) in
-    let l = stands words 0 end cs r.0 t r.1 in
-    let h = shape words r.0 l.chunk in
-    let e : slots_at words s ≡ r.0.slots = ap (slots_at words) (sym r.2) ∙ h.slots in
-    record {
-      chunk = r.0;
-      inside = listed cs r.0 r.1;
-      start = r.2;
-      slots = sym e;
-      lead = ap (λ n. r.0.at + cond (leads (get_or words n 0)) 1 0) (sym r.2) ∙ sym h.lead ∙ r.2;
-      size = omega (arith, h.size, r.2, e);
-      fits = l.lies.before;
-    }
 
 pub reads-cells : (to : ℕ → Option ℕ) (words : List ℕ) (end : ℕ) (cs : List Chunk) → InOrder words 0 end cs → ReadsCells to words cs
 reads-cells to words end cs t = record {

@@ -1,21 +1,17 @@
 -- A row of chunks, as it is read: what a start tells, where starts stand, and how a range that is read without a fault becomes a row.
-use Rattle.std.specs.Prelude.{ℕ, ◌≡◌, ◌≢◌, ◌+◌, ◌-◌, ◌<◌, ◌≤◌, max, List, ◌++◌, map, length, slice_index, slice_index_or, true, nat_eq, Option, Ok}
+use Rattle.std.specs.Prelude.{ℕ, ◌≡◌, ◌≢◌, ◌+◌, ◌<◌, ◌≤◌, max, List, map, length, slice_index, slice_index_or, true, nat_eq, Option, Ok}
 use Rattle.std.specs.List.{All, Contains}
 use Rattle.object_header.specs.Fields.{fields_of}
 use Rattle.object_header.specs.Head.{class_of}
 use Rattle.object_header.specs.declared.head.Head.{Head}
 use Rattle.object_header.specs.declared.header.TheConstants.{FREE_CLASS, FORWARDER_CLASS}
-use Rattle.object_header.specs.Chunks.{Chunk, leads, chunk_of, IsChunk, Cuts, InOrder, chunks_from, chunks, slots_at, slots_from}
-use Rattle.spur_graph.specs.Cells.{Body, cell_in, cell_from, body_from, start_named, is_start, is_moved, is_there, target_of, body_of, is_formed, pointer_count, unit_count}
+use Rattle.object_header.specs.Chunks.{Chunk, leads, chunk_of, IsChunk, Cuts, chunks, slots_at, slots_from}
+use Rattle.spur_graph.specs.Cells.{Body, cell_in, cell_from, body_from, start_named, is_moved, is_there, target_of, body_of, is_formed, pointer_count, unit_count}
 use Rattle.spur_graph.specs.Places.{head_at, place, IsBadObject}
 
 -- the starts of a row
 abbrev pub starts_of : List Chunk → List ℕ
 starts_of cs = map (λ (c : Chunk). c.start) cs
-
--- words are cut into chunks in one way at most
-abbrev pub ChunksAre : Type 0
-ChunksAre = (words : List ℕ) (cs : List Chunk) → Cuts words 0 (length words) cs → chunks words ≡ cs
 
 -- what the words at a start tell of what stands there, where these chunks stand in order among the words up to `end`
 pub record ReadsStart (to : ℕ → Option ℕ) (words : List ℕ) (end : ℕ) (cs : List Chunk) (s : ℕ) : Type 0 where
@@ -29,9 +25,6 @@ pub record ReadsStart (to : ℕ → Option ℕ) (words : List ℕ) (end : ℕ) (
   pub target : is_moved (cell_in to words cs s) ≡ true → target_of (cell_in to words cs s) ≡ start_named to words (slice_index words (s + 1))
   pub body : is_there (cell_in to words cs s) ≡ true → body_of (cell_in to words cs s) ≡ body_from (fields_of (slice_index words s)) (slots_from words s)
 
-abbrev pub StartRead : Type 0
-StartRead = (to : ℕ → Option ℕ) (words : List ℕ) (end : ℕ) (cs : List Chunk) (s : ℕ) → InOrder words 0 end cs → is_start (cell_in to words cs s) ≡ true → ReadsStart to words end cs s
-
 -- the chunk of the start `s` ends before that of the start `t` begins
 pub record EndsBefore (words : List ℕ) (s t : ℕ) : Type 0 where
   pub next : s + 2 ≤ t
@@ -44,9 +37,6 @@ pub record AreStarts (words : List ℕ) (end : ℕ) (cs : List Chunk) : Type 0 w
   pub below : All (λ s. s < end) (starts_of cs)
   pub fit : (s : ℕ) → Contains (starts_of cs) s → s + 1 + max 1 (slots_at words s) ≤ end
   pub apart : (s t : ℕ) → Contains (starts_of cs) s → Contains (starts_of cs) t → s < t → EndsBefore words s t
-
-abbrev pub StartsRise : Type 0
-StartsRise = (words : List ℕ) (end : ℕ) (cs : List Chunk) → InOrder words 0 end cs → AreStarts words end cs
 
 -- the slots of an object whose head was read
 pub record ReadsObject (b : Body) (h : Head) : Type 0 where
@@ -65,9 +55,6 @@ pub record ReadsHead (words : List ℕ) (end at : ℕ) (h : Head) : Type 0 where
   pub told : slots_at words (at + h.lead) ≡ h.slots
   pub object : class_of h.header ≢ FREE_CLASS → class_of h.header ≢ FORWARDER_CLASS → ReadsObject (body_from (fields_of h.header) (slots_from words (at + h.lead))) h
 
-abbrev pub HeadRead : Type 0
-HeadRead = (words : List ℕ) (end at : ℕ) (h : Head) → end ≤ length words → at < end → head_at words end at ≡ Ok h → ReadsHead words end at h
-
 -- no chunk of a range is refused
 abbrev pub AllRead : List ℕ → ℕ → ℕ → Type 0
 AllRead words from end = (n : ℕ) → IsBadObject words from end n → ⊥
@@ -77,22 +64,10 @@ pub record CutsFormed (words : List ℕ) (from end : ℕ) (cs : List Chunk) : Ty
   pub row : Cuts words from end cs
   pub formed : (to : ℕ → Option ℕ) (s : ℕ) → is_there (cell_in to words cs s) ≡ true → is_formed (body_of (cell_in to words cs s)) ≡ true
 
-abbrev pub RangeCuts : Type 0
-RangeCuts = (words : List ℕ) (most from end : ℕ) → from ≤ end → end ≤ length words → end - from ≤ most → AllRead words from end
-    → CutsFormed words from end (chunks_from most words from end)
-
-abbrev pub CutsJoin : Type 0
-CutsJoin = (words : List ℕ) (at mid end : ℕ) (xs ys : List Chunk) → Cuts words at mid xs → Cuts words mid end ys → Cuts words at end (xs ++ ys)
-
 -- all words are cut, and each chunk is read without a fault when the whole is read as one range
 pub record AllAreCut (words : List ℕ) : Type 0 where
   pub cut : CutsFormed words 0 (length words) (chunks words)
   pub read : AllRead words 0 (length words)
-
--- ranges one behind another, up to the last word
-abbrev pub AllCut : Type 0
-AllCut = (words : List ℕ) (bound : ℕ → ℕ) (n : ℕ) → bound 0 ≡ 0 → bound n ≡ length words → ((i : ℕ) → i < n → bound i ≤ bound (i + 1))
-    → ((i : ℕ) → i < n → AllRead words (bound i) (bound (i + 1))) → AllAreCut words
 
 -- chunk `k` of some words is where the walk over all of them is after `k` steps
 pub record IsPlace (words : List ℕ) (k : ℕ) : Type 0 where
@@ -101,9 +76,3 @@ pub record IsPlace (words : List ℕ) (k : ℕ) : Type 0 where
   pub read : head_at words (length words) (place words 0 (length words) k) ≡ Ok head
   pub at : (d : Chunk) → (slice_index_or (chunks words) k d).at ≡ place words 0 (length words) k
   pub start : slice_index (starts_of (chunks words)) k ≡ place words 0 (length words) k + head.lead
-
-abbrev pub PlaceIsStart : Type 0
-PlaceIsStart = (words : List ℕ) (k : ℕ) → AllRead words 0 (length words) → k < length (chunks words) → IsPlace words k
-
-abbrev pub PlaceIsEnd : Type 0
-PlaceIsEnd = (words : List ℕ) (k : ℕ) → AllRead words 0 (length words) → length (chunks words) ≤ k → place words 0 (length words) k ≡ length words

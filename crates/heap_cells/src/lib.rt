@@ -10,11 +10,5 @@
 #![tactic(auto)]
 
 mod laws;
-mod rows;
 
 pub use laws::loadable_is_closed;
-pub use rows::{
-    all_cut, appended, body_written, cell_read, cells_mapped, chunks_are, cuts_join, head_read,
-    header_written, keeps_row, one_rewritten, place_is_end, place_is_start, range_cuts,
-    slots_written, start_has_chunk, start_read, starts_rise, target_written,
-};

@@ -175,6 +175,11 @@ unfolding end_place
 no_entries [] is = (refl, refl)
 no_entries (e ∷ rest) is = absurd (omega arith)
 
+-- and no entries have no words
+pub no_word : (es : List Entry) (a : ℕ) → length es ≡ 0 → word_in (segments_of es) 0 a ≡ None
+no_word [] a is = word-none 0 a
+no_word (e ∷ rest) a is = absurd (omega arith)
+
 -- a test of a search that failed
 pub is_above : (n m : ℕ) → leb n m ≡ false → m < n
 is_above n m is = grind (arith, nat_tests)

@@ -1,11 +1,11 @@
 -- Words and addresses of segments that rise.
 use Rattle.std.proofs.Common.{◌≡◌, ℕ, ◌+◌, ◌*◌, ◌/◌, ◌%◌, ◌-◌, ◌≤◌, ◌<◌, List, [], ◌∷◌, Some, None, Bool, true, false, nat_eq, nat_lt, ◌&&◌, not, cond, arith, refl, sym, ap, subst, ◌∙◌, inl, inr}
-use Rattle.std.proofs.lemmas.Bool.{cases_lt}
+use Rattle.std.proofs.lemmas.Bool.{cases_lt, cases_Bool}
 use Rattle.std.proofs.lemmas.Bool.Decides.{nat_tests}
 use Rattle.std.proofs.lemmas.List.Sums.{sum_by-cons}
-use Rattle.std.proofs.lemmas.Option.{same_Some}
+use Rattle.std.proofs.lemmas.Option.{none-some, same_Some}
 use Rattle.spur_graph.specs.Segments.{Segment, end_of, word_count, total_words, word_in, address_in}
-use Rattle.heap_segments.specs.Rising.{IsAbove, IsRising, has_address, IsOneToOne, HasItsWord, HasItsAddress}
+use Rattle.heap_segments.specs.Rising.{IsAbove, IsRising, has_address, IsOneToOne, HasItsWord, HasItsAddress, AreInOrder}
 
 pub total-cons : (s : Segment) (rest : List Segment) → total_words (s ∷ rest) ≡ word_count s + total_words rest
 total-cons s rest = sum_by-cons word_count s rest
@@ -128,3 +128,37 @@ pub has_its_word : HasItsWord
 has_its_word segs n rising lt =
     let same : 0 + n ≡ n = omega arith in
     (worded segs 0 0 n rising lt).word ∙ ap (λ (m : ℕ). Some m) same
+
+-- words stand in the order of their addresses
+in_order_from : (segs : List Segment) (floor at a b s t : ℕ) → IsRising floor segs → word_in segs at a ≡ Some s → word_in segs at b ≡ Some t → a < b → s < t
+in_order_from [] floor at a b s t rising is other lt = absurd (none-some s (sym (word-none at a) ∙ is))
+in_order_from (x ∷ rest) floor at a b s t rising is other lt = elim (cases_Bool (has_address x a)) [
+  | inl on ↦
+      let here : at + (a - x.address) / 8 ≡ s = same_Some _ _ (told a s true on is) in
+      let parts : (a % 8 ≡ 0) × (x.address ≤ a) × (a < x.address + 8 * word_count x) = inside x.address (x.address + 8 * word_count x) a on in
+      elim (cases_Bool (has_address x b)) [
+        | inl too ↦
+            let there : at + (b - x.address) / 8 ≡ t = same_Some _ _ (told b t true too other) in
+            let ends : (b % 8 ≡ 0) × (x.address ≤ b) × (b < x.address + 8 * word_count x) = inside x.address (x.address + 8 * word_count x) b too in
+            omega (arith, here, there, parts.0, parts.1, ends.0, ends.1, rising.0.aligned, lt)
+        | inr past ↦
+            let behind = found rest (end_of x) (at + word_count x) b t rising.1 (told b t false past other) in
+            omega (arith, here, parts.0, parts.1, parts.2, rising.0.aligned, behind.after)
+      ]
+  | inr off ↦
+      let later = told a s false off is in
+      elim (cases_Bool (has_address x b)) [
+        | inl too ↦
+            let ends : (b % 8 ≡ 0) × (x.address ≤ b) × (b < x.address + 8 * word_count x) = inside x.address (x.address + 8 * word_count x) b too in
+            let behind = found rest (end_of x) (at + word_count x) a s rising.1 later in
+            let high = (worded rest (end_of x) (at + word_count x) (s - (at + word_count x)) rising.1 (omega (arith, behind.after, behind.before))).high in
+            absurd (omega (arith, high, behind.there, ends.2, rising.0.some, lt))
+        | inr past ↦ in_order_from rest (end_of x) (at + word_count x) a b s t rising.1 later (told b t false past other) lt
+      ]
+]
+  where
+    told : (c n : ℕ) (test : Bool) → has_address x c ≡ test → word_in (x ∷ rest) at c ≡ Some n → cond test (Some (at + (c - x.address) / 8)) (word_in rest (at + word_count x) c) ≡ Some n
+    told c n test has e = sym (ap (λ k. cond k (Some (at + (c - x.address) / 8)) (word_in rest (at + word_count x) c)) has) ∙ (sym (word-cons x rest at c) ∙ e)
+
+pub in_order : (segs : List Segment) → IsRising 0 segs → AreInOrder segs
+in_order segs rising a b s t = in_order_from segs 0 0 a b s t rising

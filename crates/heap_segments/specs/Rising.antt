@@ -48,3 +48,7 @@ HasItsWord = (segs : List Segment) (n : ℕ) → IsRising 0 segs → n < total_w
 -- an address that has a word is that word's
 abbrev pub HasItsAddress : Type 0
 HasItsAddress = (segs : List Segment) (a n : ℕ) → IsRising 0 segs → word_in segs 0 a ≡ Some n → (n < total_words segs) × (address_in segs n ≡ a)
+
+-- words stand in the order of their addresses
+abbrev pub AreInOrder : List Segment → Type 0
+AreInOrder segs = (a b s t : ℕ) → word_in segs 0 a ≡ Some s → word_in segs 0 b ≡ Some t → a < b → s < t

@@ -5,14 +5,7 @@ ghost use Rattle.spur_graph.specs.Segments.{is_bad_size, bridge_bytes, greatest_
 ghost use Rattle.heap_segments.specs.Rising.{end_place, segment_at};
 ghost use Rattle.heap_segments.specs.Entries.{segment_of, segments_of, AreLaid, IsLastUpTo, IsNear, entry_at, word_within};
 
-/// Bytes of the header, behind which the first segment lies.
-const HEADER_BYTES: u64 = 128;
-
-/// Bytes of the bridge at the end of a segment.
-const BRIDGE_BYTES: u64 = 16;
-
-/// No segment ends past this address.
-const GREATEST_END: u64 = 1 << 62;
+use spur_graph::{BRIDGE_BYTES, GREATEST_END, HEADER_BYTES};
 
 /// Whether a segment can't have this size at this address, where so many bytes of the heap are left.
 pub(crate) fn is_misfit(left: u64, size: u64, address: u64) -> bool
@@ -79,7 +72,7 @@ pub(crate) fn behind(entries: &[Entry]) -> (u64, usize)
     ensures words { result.1 ≡ total_words (segments_of entries.now) }
 {
     if entries.is_empty() {
-        return (HEADER_BYTES, 0);
+        return (HEADER_BYTES as u64, 0);
     }
     let last = entries[entries.len() - 1];
     (last.at + last.size, last.begin + last.words())
@@ -105,14 +98,29 @@ fn by_word(entries: &[Entry], word: usize) -> usize
     behind - 1
 }
 
-/// The word that has an address.
-pub(crate) fn word_at(entries: &[Entry], address: u64) -> Option<usize>
+/// The word that has an address, by a search among all entries.
+fn searched_word(entries: &[Entry], address: u64) -> Option<usize>
     requires { AreLaid entries.now }
     ensures { result ≡ word_in (segments_of entries.now) 0 address }
 {
     let i = by_address(entries, address)?;
     let entry = entries[i];
     entry.word(address)
+}
+
+/// The word that has an address. No search is needed where the last entry does not lie above it, as with an image of one segment.
+pub(crate) fn word_at(entries: &[Entry], address: u64) -> Option<usize>
+    requires { AreLaid entries.now }
+    ensures { result ≡ word_in (segments_of entries.now) 0 address }
+{
+    if entries.is_empty() {
+        return None;
+    }
+    let last = entries[entries.len() - 1];
+    if last.address > address {
+        return searched_word(entries, address);
+    }
+    last.word(address)
 }
 
 /// The place in the file of a word, or of the end of all.

@@ -17,5 +17,5 @@ mod map;
 mod tests;
 
 pub use bridge::{Next, SegmentFault, after};
-pub use laws::{has_its_address, has_its_word, is_one_to_one};
+pub use laws::is_one_to_one;
 pub use map::AddressMap;

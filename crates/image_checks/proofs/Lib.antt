@@ -7,5 +7,4 @@ pub mod Resolved
 pub mod AtStarts
 pub mod Objects
 pub mod Paging
-pub mod Pointers
 pub mod ClassEntries

@@ -6,10 +6,12 @@ use Rattle.heap_walk.specs.Starts.{has_start, covered}
 use Rattle.object_header.specs.Head.{format_of}
 use Rattle.spur_graph.specs.Segments.{Segment, word_in}
 use Rattle.object_header.specs.Chunks.{chunks, StandsAt, slots_at}
-use Rattle.spur_graph.specs.Cells.{is_there, first}
-use Rattle.spur_graph.specs.Ordinary.{body_at, root_slot, roots_slots, page_entries, is_page_body}
+use Rattle.spur_graph.specs.Cells.{is_there, pointer_count, first}
+use Rattle.spur_graph.specs.Ordinary.{body_at, root_slot, roots_slots, page_entries, is_page_body, is_ordinary}
+use Rattle.heap_cells.proofs.Bodies.{pointers_fit}
 use Rattle.heap_cells.proofs.Cutting.{all-in_order}
 use Rattle.heap_cells.proofs.ObjectReads.{object-stands, object-body, object-slots, object-word}
+use Rattle.heap_cells.proofs.References.{ordinary_there}
 use Rattle.image_checks.specs.Checks.{IsCut}
 use Rattle.spur_graph.specs.FileStores.{file_store}
 use Rattle.image_checks.specs.Checked.{AreFirst, AreLeft, AreWithin, is_taken, object_at}
@@ -66,3 +68,14 @@ module _ {segs : List Segment} {words : List ℕ} (k : IsCut segs words) where
     | inl on ↦ absurd (omega (arith, (stands_there s on).below, l))
     | inr off ↦ off
   ]
+
+  -- ---- ordinary objects
+
+  pub stands_ordinary : (s : ℕ) → is_ordinary (file_store segs words) s ≡ true → StandsAt words s
+  stands_ordinary s e = stands_there s (ordinary_there (file_store segs words) s e)
+
+  -- the pointers are among the slots
+  pub fit_ordinary : (s : ℕ) → is_ordinary (file_store segs words) s ≡ true → pointer_count (body_at (file_store segs words) s) ≤ slots_at words s
+  fit_ordinary s e =
+      let there = ordinary_there (file_store segs words) s e in
+      omega (arith, pointers_fit (body_at (file_store segs words) s) (k.formed s there), slots_there s there)

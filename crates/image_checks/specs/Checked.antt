@@ -8,7 +8,7 @@ use Rattle.heap_walk.specs.declared.starts.StartMap.{StartMap}
 use Rattle.heap_walk.specs.Starts.{has_start, covered}
 use Rattle.spur_graph.specs.Segments.{Segment}
 use Rattle.spur_graph.specs.Cells.{Body, Moved, Store, first, lead, is_there, any_below, body_from}
-use Rattle.spur_graph.specs.Ordinary.{page_entries, page_places, passes, body_at, root_slot, tells, is_nil_slot, is_entered, is_bad_page, is_bad_slot}
+use Rattle.spur_graph.specs.Ordinary.{page_entries, page_places, passes, body_at, root_slot, tells, is_nil_slot, is_entered, is_bad_page}
 use Rattle.image_checks.specs.Checks.{IsCut, HasFive, HasStarts}
 use Rattle.spur_graph.specs.FileStores.{file_store}
 
@@ -64,7 +64,3 @@ HasPage h i (Some s) = (is_nil_slot h i ≡ false) × (h.to (root_slot h i) ≡ 
 -- the word is good for entry `i` of the class table: it leads to nil, or to an entered class where that is not entry 0
 abbrev pub is_good_entry : Store → ℕ → ℕ → Bool
 is_good_entry h i word = passes (λ s. nat_eq s (first h 0) || (not (nat_eq i 0) && is_entered h s)) (lead h word)
-
--- a pointer slot of this object, of another format than 3, that has no value
-abbrev pub IsBadPointerOf : Store → ℕ → ℕ → Type 0
-IsBadPointerOf h s n = (i : ℕ) × (n ≡ s + 1 + i) × ((body_at h s).format ≢ 3) × (is_bad_slot h s i ≡ true)

@@ -3,7 +3,7 @@ use Rattle.std.specs.Prelude.{ℕ, ◌≡◌, ◌≢◌, ◌+◌, ◌<◌, ◌�
 use Rattle.spur_graph.specs.Segments.{Segment, total_words}
 use Rattle.object_header.specs.Chunks.{Cuts, chunks}
 use Rattle.spur_graph.specs.Cells.{Moved, Store, first, final, is_start, is_there, is_moved, is_formed}
-use Rattle.spur_graph.specs.Ordinary.{body_at, roots_slots, page_places, is_ordinary, is_bad_forwarder, is_bad_page, is_bad_entry, is_bad_slot}
+use Rattle.spur_graph.specs.Ordinary.{body_at, roots_slots, page_places, is_ordinary, is_bad_forwarder, is_bad_page, is_bad_entry}
 use Rattle.spur_graph.specs.Places.{IsBadObject}
 use Rattle.spur_graph.specs.FileStores.{file_store}
 
@@ -53,7 +53,3 @@ IsBadPlace h i = (i < page_places) × (is_bad_page h i ≡ true)
 -- an index whose entry is neither nil nor an entered class
 abbrev pub IsBadIndex : Store → ℕ → Type 0
 IsBadIndex h i = is_bad_entry h i ≡ true
-
--- a pointer slot, of an object of another format than 3, that has no value
-abbrev pub IsBadPointer : Store → ℕ → Type 0
-IsBadPointer h n = (s i : ℕ) × (n ≡ s + 1 + i) × ((body_at h s).format ≢ 3) × (is_bad_slot h s i ≡ true)

@@ -2,9 +2,9 @@
 //!
 //! The words are those of the objects of all segments, one after another. The passes over them go in the order of the causes for which an image
 //! is refused: each chunk is read in its segment; the first five are nil, false, true, the free lists object and the hidden roots; each forwarder
-//! leads to an object; the hidden roots name nil and class table pages; the entries of the pages lead to nil and to classes; each pointer slot of
-//! an ordinary object has a value. A pass takes time linear in the words, allocates nothing and does not recurse, whatever the words are. Forwarders
-//! and objects are found by the maps of their starts, so that no word between these is tried.
+//! leads to an object; the hidden roots name nil and class table pages; the entries of the pages lead to nil and to classes. The pointer slots of the
+//! other objects are tested where they are settled. A pass takes time linear in the words, allocates nothing and does not recurse, whatever the words
+//! are. Forwarders and objects are found by the maps of their starts, so that no word between these is tried.
 //!
 //! The layers above rest on this: a pass answers with the least bad place, and with none exactly where nothing is bad. Once the chunks are read,
 //! the words are cut into them without a rest. The map of starts then has objects and forwarders, and free chunks not. Once the forwarders are
@@ -21,16 +21,14 @@ mod entries;
 mod head;
 mod laws;
 mod pages;
+mod references;
 mod roots;
-mod slots;
-mod starts;
 mod walk;
 
 pub use chains::resolve_forwarders;
 pub use entries::first_bad_entry;
 pub use laws::keeps_five;
 pub use pages::{mark_objects, take_pages};
+pub use references::is_good_reference;
 pub use roots::first_bad_root;
-pub use slots::{first_bad_slot, is_good_reference};
-pub use starts::mark_starts;
 pub use walk::first_bad_object;

@@ -17,7 +17,7 @@ use Rattle.image_header.specs.Headers.{IsHeaderOf, fault_of, is_bad_base}
 use Rattle.image_header.proofs.Headers.{tells_of_file}
 use Rattle.image_file.specs.Told.{Tells}
 use Rattle.image_file.specs.Passed.{Passes}
-use Rattle.image_file.specs.Errors.{IsErrorOf, IsSoundHeader, header_error}
+use Rattle.image_file.specs.Errors.{IsCauseOf, IsSoundHeader, header_error}
 use Rattle.image_file.proofs.Rows.{passes_none, passes_next, first_cause, least_zero}
 
 -- what is told of a store is told of its file
@@ -85,12 +85,12 @@ passes_front file limits long none =
     passes_next file limits BadBase 3 refl (passes_size file limits long off.0 off.1) (λ n bad. elim bad [ inl unaligned ↦ unaligned good.0 | inr high ↦ absurd (omega (arith, good.1, high)) ])
 
 -- a file with a fault in its header
-pub front_refused : (file : List ℕ) (limits : Limits) (e : HeaderError) → header_bytes ≤ length file → fault_of file ≡ Some e → IsErrorOf file limits (header_error e)
+pub front_refused : (file : List ℕ) (limits : Limits) (e : HeaderError) → header_bytes ≤ length file → fault_of file ≡ Some e → IsCauseOf file limits (header_error e)
 front_refused file limits e long is =
     let a : Bool = not (nat_eq (format file) spur_format) in
     let b : Bool = not (nat_eq (header_size file) header_bytes) in
     let c : Bool = is_bad_base (base file) in
-    let Is : HeaderError → Type 0 = λ x. IsErrorOf file limits (header_error x) in
+    let Is : HeaderError → Type 0 = λ x. IsCauseOf file limits (header_error x) in
     elim (three_some a b c (header.Format (format file)) (header.HeaderSize (header_size file)) (header.Base (base file)) e is) [
       | inl first ↦ subst Is (sym first.1) (first_cause file limits (Format (format file)) OtherFormat 0 1 refl (passes_header file limits long)
           (least_zero (Bad file limits OtherFormat) (differs (format file) spur_format first.0)) refl)

@@ -5,8 +5,8 @@ use Rattle.spur_graph.specs.ImageCauses.{Comes, IsBadLink, IsLeast, is_bad_segme
 use Rattle.spur_graph.specs.Segments.{Segment, segment, segments, chain, most_segments, total_words}
 use Rattle.heap_segments.specs.Rising.{end_address, end_place}
 use Rattle.image_file.specs.declared.chain.Link.{Link}
-use Rattle.image_file.specs.declared.error.FileError.{FileError}
-use Rattle.image_file.specs.declared.error.FileError.TheVariants as errors
+use Rattle.image_file.specs.declared.error.LoadError.{LoadError}
+use Rattle.image_file.specs.declared.error.LoadError.TheVariants as errors
 
 abbrev pub segment_of : Link → Segment
 segment_of l = record { at = l.place; size = l.size; address = l.address }
@@ -46,7 +46,7 @@ pub record CannotStand (bytes : List ℕ) (i : ℕ) : Type 0 where
   pub bad : is_bad_segment bytes i ≡ true
 
 -- what an error tells of the chain
-abbrev pub IsLinkError : List ℕ → FileError → Type 0
+abbrev pub IsLinkError : List ℕ → LoadError → Type 0
 IsLinkError bytes (errors.Segment i) = CannotStand bytes i
 IsLinkError bytes (errors.End n) = (i : ℕ) × EndsEarly bytes i n
 IsLinkError bytes errors.ReadFault = Unit {0}

@@ -9,16 +9,13 @@ ghost use Rattle.image_file.specs.Told.{Tells};
 ghost use Rattle.image_file.specs.Errors.{ReadCause};
 ghost use Rattle.image_file.specs.Linked.{IsReady, Leads, IsChain, IsLinkError};
 
-use crate::FileError;
-use crate::header::HEADER_BYTES;
+use crate::LoadError;
 use crate::pieces::read_bridge;
 use heap_segments::{AddressMap, Next, after};
 use image_header::ImageHeader;
+use spur_graph::{BRIDGE_BYTES, HEADER_BYTES};
 use spur_io::Files;
 use std::alloc::Global;
-
-/// Bytes of the bridge at the end of a segment.
-const BRIDGE_BYTES: u64 = 16;
 
 /// A segment as a header or a bridge tells of it, before it is checked.
 #[derive(Clone, Copy)]
@@ -52,14 +49,14 @@ fn first_link(header: &ImageHeader) -> Link
 /// Enters a segment into the map, and gives what its bridge tells: the next segment, or none where the chain ends. The heap
 /// ends at the byte `end` of the file.
 ///
-/// The error is [`FileError::Segment`] where the segment can't stand, and [`FileError::End`] where it is the last and bytes of the heap are left.
+/// The error is [`LoadError::Segment`] where the segment can't stand, and [`LoadError::End`] where it is the last and bytes of the heap are left.
 fn enter<F: Files>(
     files: &mut F,
     name: &str,
     map: &mut AddressMap,
     end: u64,
     link: Link,
-) -> Result<Option<Link>, FileError>
+) -> Result<Option<Link>, LoadError>
     requires ready { IsReady end map.old link }
     requires near { end ≤ 2 ^ 32 }
     ensures ready { IfOk result (λ o. IfSome o (IsReady end map.new)) }
@@ -76,7 +73,7 @@ fn enter<F: Files>(
 {
     let number = map.len() as u64;
     let Ok(()) = map.next_segment(end - link.place, link.size, link.address) else {
-        return Err(FileError::Segment(number));
+        return Err(LoadError::Segment(number));
     };
     let place = link.place + link.size;
     let left = end - place;
@@ -88,7 +85,7 @@ fn enter<F: Files>(
             size,
             address,
         })),
-        Err(_) => Err(FileError::End(left)),
+        Err(_) => Err(LoadError::End(left)),
     }
 }
 
@@ -98,7 +95,7 @@ pub(crate) fn read_chain<F: Files>(
     files: &mut F,
     name: &str,
     header: &ImageHeader,
-) -> Result<AddressMap, FileError>
+) -> Result<AddressMap, LoadError>
     requires aligned { (header.now).base % 8 ≡ 0 }
     requires few { (header.now).heap_bytes ≤ 2 ^ 31 }
     ensures chain { IfOk result (λ map. (file : List ℕ) → Tells (F.told files.old) name.now file → IsHeaderOf file header.now → header_bytes + heap_bytes file ≤ length file → IsChain file map) }

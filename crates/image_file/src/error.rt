@@ -1,35 +1,46 @@
-// Why a file is refused.
+// Why an image is not loaded.
 ghost use Rattle.std.specs.Prelude.{◌≡◌};
 
 use image_header::HeaderError;
 use spur_io::FileFault;
 use spur_words::NoMemory;
 
-/// Why an image file is refused, in the order in which the causes are tried. A failed read and want of memory come in place of
-/// whatever would follow.
+/// Why there is no heap, with the number that is told: of bytes, of words, of a segment, or a place in the file.
 #[derive(Clone, Copy, Debug, PartialEq, Eq)]
-pub enum FileError {
-    /// The file has so many bytes, too few for a header or for the heap that the header tells.
+pub enum LoadError {
+    /// The file has so many bytes, too few for its header or its heap.
     Short(u64),
-    /// The file has this format, and not 68021.
+    /// The format is this number, not that of a 64-bit Spur image.
     Format(u32),
-    /// The header has this size, and not 128 bytes.
+    /// The header tells this size of itself, not 128 bytes.
     HeaderSize(u32),
-    /// The heap begins at this address, which is no multiple of 8 or exceeds 2^60.
+    /// The base address is no multiple of 8 or too great.
     Base(u64),
-    /// The image and the limits ask for so many words, more than 2^27.
+    /// Image and limits ask for so many words, more than a region has.
     Large(u128),
-    /// The segment of this number, counted from 0, can't have its size, or it is the 4,097th.
+    /// The segment of this number can't stand.
     Segment(u64),
-    /// The last segment has ended, and so many bytes of the heap are left.
+    /// The chain of segments ends, and so many bytes of the heap are left.
     End(u64),
+    /// The chunk at this place is refused.
+    Object(u64),
+    /// One of the first five chunks, at this place, is not what it has to be.
+    Roots(u64),
+    /// The chain of the forwarder whose first slot is at this place ends in no object.
+    Forwarder(u64),
+    /// The place of a page, or the class table's entry, that is at this place names neither nil nor what it may name.
+    Class(u64),
+    /// The pointer slot at this place has no value.
+    Slot(u64),
+    /// The special objects reference is this word, which names no ordinary object.
+    Special(u64),
     /// A read failed.
     ReadFault,
-    /// There is no memory for the map or for the bytes that are read at a time, or the store found none.
+    /// There is no memory for the heap, or the store found none.
     Memory,
 }
 
-impl From<FileFault> for FileError {
+impl From<FileFault> for LoadError {
     ghost use Rattle.spur_io.specs.declared.files.FileFault.{FileFault};
     ghost use Rattle.image_file.specs.Errors.{file_error};
 
@@ -37,13 +48,13 @@ impl From<FileFault> for FileError {
 
     fn from(fault: FileFault) -> Self {
         match fault {
-            FileFault::Failed => FileError::ReadFault,
-            FileFault::Memory => FileError::Memory,
+            FileFault::Failed => LoadError::ReadFault,
+            FileFault::Memory => LoadError::Memory,
         }
     }
 }
 
-impl From<HeaderError> for FileError {
+impl From<HeaderError> for LoadError {
     ghost use Rattle.image_header.specs.declared.header.HeaderError.{HeaderError};
     ghost use Rattle.image_file.specs.Errors.{header_error};
 
@@ -51,19 +62,19 @@ impl From<HeaderError> for FileError {
 
     fn from(error: HeaderError) -> Self {
         match error {
-            HeaderError::Format(format) => FileError::Format(format),
-            HeaderError::HeaderSize(size) => FileError::HeaderSize(size),
-            HeaderError::Base(base) => FileError::Base(base),
+            HeaderError::Format(format) => LoadError::Format(format),
+            HeaderError::HeaderSize(size) => LoadError::HeaderSize(size),
+            HeaderError::Base(base) => LoadError::Base(base),
         }
     }
 }
 
-impl From<NoMemory> for FileError {
-    ghost use Rattle.image_file.specs.declared.error.FileError.TheVariants.{Memory};
+impl From<NoMemory> for LoadError {
+    ghost use Rattle.image_file.specs.declared.error.LoadError.TheVariants.{Memory};
 
     ghost from_gives = { λ _ e. e ≡ Memory };
 
     fn from(_: NoMemory) -> Self {
-        FileError::Memory
+        LoadError::Memory
     }
 }

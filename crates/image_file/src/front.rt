@@ -1,9 +1,9 @@
 // What stands at the front of a file, and its chain of segments.
 ghost use Rattle.std.specs.Prelude.{◌≡◌, ◌≤◌, ◌^◌, length, IfOk, IfErr, IfSome};
-ghost use Rattle.image_file.specs.Errors.{IsErrorOf, ReadCause};
+ghost use Rattle.image_file.specs.Errors.{IsCauseOf, ReadCause};
 ghost use Rattle.image_file.specs.Whole.{IsFrontOf, IsSoundFront};
 
-use crate::FileError;
+use crate::LoadError;
 use crate::chain::read_chain;
 use crate::header::{check_size, read_header};
 use crate::length::check_length;
@@ -24,20 +24,20 @@ pub struct Front {
 
 /// Reads the front of the image file of this name, and follows its chain of segments.
 ///
-/// The error is the first of the causes that applies, in the order of [`FileError`], where [`FileError::Short`] for the heap comes
-/// behind [`FileError::Large`]. A file that is shorter than its header promises costs no memory: its length is found by reads of one byte.
+/// The error is the first of the causes that applies, in the order of [`LoadError`], where [`LoadError::Short`] for the heap comes
+/// behind [`LoadError::Large`]. A file that is shorter than its header promises costs no memory: its length is found by reads of one byte.
 pub fn read_front<F: Files>(
     alloc: Global,
     files: &mut F,
     name: &str,
     limits: Limits,
-) -> Result<Front, FileError>
+) -> Result<Front, LoadError>
     requires room { limits.room ≤ 2 ^ 27 }
     requires eden { limits.eden ≤ 2 ^ 27 }
     requires survivor { limits.survivor ≤ 2 ^ 27 }
     ensures front { IfOk result (λ f. IfSome (F.told files.old) (λ store. IsFrontOf (store name.now) limits f)) }
     ensures sound { IfOk result (IsSoundFront limits) }
-    ensures refused { IfErr result (λ e. IfSome (F.told files.old) (λ store. IsErrorOf (store name.now) limits e)) }
+    ensures refused { IfErr result (λ e. IfSome (F.told files.old) (λ store. IsCauseOf (store name.now) limits e)) }
     ensures same { F.told files.new ≡ F.told files.old }
     ensures cause { ReadCause (F.read_count files.old) (F.read_count files.new) result }
     ensures other { F.write_count files.new ≡ F.write_count files.old }

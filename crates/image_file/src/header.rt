@@ -7,26 +7,20 @@ ghost use Rattle.spur_graph.specs.Heaps.{IsCarried};
 ghost use Rattle.image_header.specs.Headers.{IsHeaderOf};
 ghost use Rattle.image_file.specs.Told.{Tells};
 ghost use Rattle.image_file.specs.Passed.{Passes, needed_words};
-ghost use Rattle.image_file.specs.Errors.{IsErrorOf, ReadCause, IsSoundHeader};
-ghost use Rattle.image_file.specs.declared.error.FileError.TheVariants.{Large};
+ghost use Rattle.image_file.specs.Errors.{IsCauseOf, ReadCause, IsSoundHeader};
+ghost use Rattle.image_file.specs.declared.error.LoadError.TheVariants.{Large};
 
-use crate::FileError;
+use crate::LoadError;
 use image_header::ImageHeader;
-use spur_graph::Limits;
+use spur_graph::{HEADER_BYTES, Limits, MOST_WORDS};
 use spur_io::{Files, read_full};
 
-/// Bytes of the header.
-pub(crate) const HEADER_BYTES: usize = 128;
-
-/// The most words that a region may have.
-const MOST_WORDS: u128 = 1 << 27;
-
 /// The header of a file.
-pub(crate) fn read_header<F: Files>(files: &mut F, name: &str) -> Result<ImageHeader, FileError>
+pub(crate) fn read_header<F: Files>(files: &mut F, name: &str) -> Result<ImageHeader, LoadError>
     ensures header { IfOk result (λ h. (file : List ℕ) → Tells (F.told files.old) name.now file → IsHeaderOf file h) }
     ensures passes { IfOk result (λ h. (file : List ℕ) → Tells (F.told files.old) name.now file → (limits : Limits) → Passes file limits 4) }
     ensures sound { IfOk result IsSoundHeader }
-    ensures refused { IfErr result (λ e. (file : List ℕ) → Tells (F.told files.old) name.now file → (limits : Limits) → IsErrorOf file limits e) }
+    ensures refused { IfErr result (λ e. (file : List ℕ) → Tells (F.told files.old) name.now file → (limits : Limits) → IsCauseOf file limits e) }
     ensures same { F.told files.new ≡ F.told files.old }
     ensures cause { ReadCause (F.read_count files.old) (F.read_count files.new) result }
     ensures other { F.write_count files.new ≡ F.write_count files.old }
@@ -34,7 +28,7 @@ pub(crate) fn read_header<F: Files>(files: &mut F, name: &str) -> Result<ImageHe
     let mut front = [0; HEADER_BYTES];
     let count = read_full(files, name, 0, &mut front)?;
     if count < HEADER_BYTES {
-        return Err(FileError::Short(count as u64));
+        return Err(LoadError::Short(count as u64));
     }
     Ok(image_header::read(&front)?)
 }
@@ -50,8 +44,8 @@ fn needed(header: &ImageHeader, limits: Limits) -> u128
     heap + limits.room as u128 + limits.eden as u128 + 2 * limits.survivor as u128
 }
 
-/// Whether the image fits a region beside what the limits ask for. The error is [`FileError::Large`].
-pub(crate) fn check_size(header: &ImageHeader, limits: Limits) -> Result<(), FileError>
+/// Whether the image fits a region beside what the limits ask for. The error is [`LoadError::Large`].
+pub(crate) fn check_size(header: &ImageHeader, limits: Limits) -> Result<(), LoadError>
     requires room { limits.room ≤ 2 ^ 27 }
     requires eden { limits.eden ≤ 2 ^ 27 }
     requires survivor { limits.survivor ≤ 2 ^ 27 }
@@ -59,8 +53,8 @@ pub(crate) fn check_size(header: &ImageHeader, limits: Limits) -> Result<(), Fil
     ensures large { IfErr result (λ e. (e ≡ Large (needed_words header.now limits)) × (most_words < needed_words header.now limits)) }
 {
     let words = needed(header, limits);
-    if words > MOST_WORDS {
-        return Err(FileError::Large(words));
+    if words > MOST_WORDS as u128 {
+        return Err(LoadError::Large(words));
     }
     Ok(())
 }

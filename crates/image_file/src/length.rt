@@ -4,8 +4,8 @@ ghost use Rattle.spur_io.specs.Causes.{FileCause};
 ghost use Rattle.image_file.specs.Told.{Tells};
 ghost use Rattle.image_file.specs.Errors.{IsShort, ReadCause};
 
-use crate::FileError;
-use crate::header::HEADER_BYTES;
+use crate::LoadError;
+use spur_graph::HEADER_BYTES;
 use spur_io::{FileFault, Files, read_full};
 
 /// Whether the file has a byte at the place `at`.
@@ -50,13 +50,13 @@ fn length_between<F: Files>(
     Ok(low)
 }
 
-/// Whether the file has a heap of so many bytes behind its header. The error is [`FileError::Short`] with the length of the file,
+/// Whether the file has a heap of so many bytes behind its header. The error is [`LoadError::Short`] with the length of the file,
 /// where that is less.
 pub(crate) fn check_length<F: Files>(
     files: &mut F,
     name: &str,
     heap_bytes: u64,
-) -> Result<(), FileError>
+) -> Result<(), LoadError>
     requires few { heap_bytes ≤ 2 ^ 31 }
     ensures long { OnOk result ((file : List ℕ) → Tells (F.told files.old) name.now file → HEADER_BYTES ≤ length file → HEADER_BYTES + heap_bytes ≤ length file) }
     ensures short { IfErr result (λ e. (file : List ℕ) → Tells (F.told files.old) name.now file → HEADER_BYTES ≤ length file → IsShort file (HEADER_BYTES + heap_bytes) e) }
@@ -72,5 +72,5 @@ pub(crate) fn check_length<F: Files>(
     if has_byte(files, name, last)? {
         return Ok(());
     }
-    Err(FileError::Short(length_between(files, name, least, last)?))
+    Err(LoadError::Short(length_between(files, name, least, last)?))
 }

@@ -19,6 +19,6 @@ mod pieces;
 mod tests;
 mod words;
 
-pub use error::FileError;
+pub use error::LoadError;
 pub use front::{Front, read_front};
 pub use words::read_words;

@@ -6,7 +6,7 @@ ghost use Rattle.image_file.specs.Told.{Tells};
 ghost use Rattle.image_file.specs.Errors.{IsFault, ReadCause};
 ghost use Rattle.image_file.specs.Held.{HasWords};
 
-use crate::FileError;
+use crate::LoadError;
 use spur_io::{Files, read_full};
 
 /// Bytes of a word.
@@ -38,7 +38,7 @@ fn copy_words(words: &mut [u64], bytes: &[u8])
     }
 }
 
-/// Reads words of the file from the byte `at` on, through the bytes of a piece. The error is [`FileError::Short`] where the file
+/// Reads words of the file from the byte `at` on, through the bytes of a piece. The error is [`LoadError::Short`] where the file
 /// ends before they do.
 pub(crate) fn read_piece<F: Files>(
     files: &mut F,
@@ -46,7 +46,7 @@ pub(crate) fn read_piece<F: Files>(
     at: u64,
     piece: &mut [u8],
     words: &mut [u64],
-) -> Result<(), FileError>
+) -> Result<(), LoadError>
     requires near { at + length piece.old < 2 ^ 64 }
     requires fit { length piece.old ≡ 8 * length words.old }
     ensures read { OnOk result ((file : List ℕ) → Tells (F.told files.old) name.now file → HasWords file at words.new) }
@@ -57,18 +57,18 @@ pub(crate) fn read_piece<F: Files>(
 {
     let count = read_full(files, name, at, piece)?;
     if count < piece.len() {
-        return Err(FileError::Short(at + count as u64));
+        return Err(LoadError::Short(at + count as u64));
     }
     copy_words(words, piece);
     Ok(())
 }
 
-/// The two words of the bridge at the byte `at`. The error is [`FileError::Short`] where the file ends before them.
+/// The two words of the bridge at the byte `at`. The error is [`LoadError::Short`] where the file ends before them.
 pub(crate) fn read_bridge<F: Files>(
     files: &mut F,
     name: &str,
     at: u64,
-) -> Result<(u64, u64), FileError>
+) -> Result<(u64, u64), LoadError>
     requires near { at + 16 < 2 ^ 64 }
     ensures first { IfOk result (λ bridge. (file : List ℕ) → Tells (F.told files.old) name.now file → bridge.0 ≡ number w64 at file) }
     ensures second { IfOk result (λ bridge. (file : List ℕ) → Tells (F.told files.old) name.now file → bridge.1 ≡ number w64 (at + 8) file) }

@@ -37,7 +37,7 @@ fn make(files: &mut MemoryFiles, header: [u8; 128], words: &[u64]) -> Result<(),
     Ok(())
 }
 
-fn cause(files: &mut MemoryFiles, rt: &HostRuntime) -> Result<(), FileError> {
+fn cause(files: &mut MemoryFiles, rt: &HostRuntime) -> Result<(), LoadError> {
     read_front(rt.alloc(), files, "an.image", LIMITS)?;
     Ok(())
 }
@@ -45,17 +45,17 @@ fn cause(files: &mut MemoryFiles, rt: &HostRuntime) -> Result<(), FileError> {
 #[test]
 fn header_is_refused_by_its_first_cause(rt: HostRuntime) -> Result<(), Fail> {
     let mut files = MemoryFiles::new(rt.alloc())?;
-    assert_eq!(rt; cause(&mut files, &rt), Err(FileError::Short(0)));
+    assert_eq!(rt; cause(&mut files, &rt), Err(LoadError::Short(0)));
     files.append("an.image", &[0; 127])?;
-    assert_eq!(rt; cause(&mut files, &rt), Err(FileError::Short(127)));
+    assert_eq!(rt; cause(&mut files, &rt), Err(LoadError::Short(127)));
     files.append("an.image", &[0])?;
-    assert_eq!(rt; cause(&mut files, &rt), Err(FileError::Format(0)));
+    assert_eq!(rt; cause(&mut files, &rt), Err(LoadError::Format(0)));
     files.begin("an.image")?;
     files.append("an.image", &68021u32.to_le_bytes())?;
     files.append("an.image", &[0; 124])?;
-    assert_eq!(rt; cause(&mut files, &rt), Err(FileError::HeaderSize(0)));
+    assert_eq!(rt; cause(&mut files, &rt), Err(LoadError::HeaderSize(0)));
     make(&mut files, header(16, 4, 0), &[0, 0])?;
-    assert_eq!(rt; cause(&mut files, &rt), Err(FileError::Base(4)));
+    assert_eq!(rt; cause(&mut files, &rt), Err(LoadError::Base(4)));
     Ok(())
 }
 
@@ -70,9 +70,9 @@ fn image_that_asks_for_too_much_is_refused(rt: HostRuntime) -> Result<(), Fail> 
         saved: 1,
     };
     let result = read_front(rt.alloc(), &mut files, "an.image", limits);
-    assert!(rt; matches!(result, Err(FileError::Large(134_217_731))));
+    assert!(rt; matches!(result, Err(LoadError::Large(134_217_731))));
     make(&mut files, header(1 << 63, 4096, 0), &[])?;
-    assert_eq!(rt; cause(&mut files, &rt), Err(FileError::Large(1 << 60)));
+    assert_eq!(rt; cause(&mut files, &rt), Err(LoadError::Large(1 << 60)));
     Ok(())
 }
 
@@ -80,11 +80,11 @@ fn image_that_asks_for_too_much_is_refused(rt: HostRuntime) -> Result<(), Fail> 
 fn length_of_a_cut_heap_is_told(rt: HostRuntime) -> Result<(), Fail> {
     let mut files = MemoryFiles::new(rt.alloc())?;
     make(&mut files, header(1 << 30, 4096, 0), &[])?;
-    assert_eq!(rt; cause(&mut files, &rt), Err(FileError::Short(128)));
+    assert_eq!(rt; cause(&mut files, &rt), Err(LoadError::Short(128)));
     files.append("an.image", &[0; 999])?;
-    assert_eq!(rt; cause(&mut files, &rt), Err(FileError::Short(1127)));
+    assert_eq!(rt; cause(&mut files, &rt), Err(LoadError::Short(1127)));
     make(&mut files, header(32, 4096, 0), &[0, 0, 0])?;
-    assert_eq!(rt; cause(&mut files, &rt), Err(FileError::Short(152)));
+    assert_eq!(rt; cause(&mut files, &rt), Err(LoadError::Short(152)));
     Ok(())
 }
 
@@ -92,15 +92,15 @@ fn length_of_a_cut_heap_is_told(rt: HostRuntime) -> Result<(), Fail> {
 fn segment_that_cannot_stand_is_told(rt: HostRuntime) -> Result<(), Fail> {
     let mut files = MemoryFiles::new(rt.alloc())?;
     make(&mut files, header(0, 4096, 0), &[])?;
-    assert_eq!(rt; cause(&mut files, &rt), Err(FileError::Segment(0)));
+    assert_eq!(rt; cause(&mut files, &rt), Err(LoadError::Segment(0)));
     make(&mut files, header(24, 4096, 20), &[0, 0, 0])?;
-    assert_eq!(rt; cause(&mut files, &rt), Err(FileError::Segment(0)));
+    assert_eq!(rt; cause(&mut files, &rt), Err(LoadError::Segment(0)));
     make(&mut files, header(24, 4096, 8), &[0, 0, 0])?;
-    assert_eq!(rt; cause(&mut files, &rt), Err(FileError::Segment(0)));
+    assert_eq!(rt; cause(&mut files, &rt), Err(LoadError::Segment(0)));
     make(&mut files, header(40, 4096, 16), &[0, 32, 0, 0, 0])?;
-    assert_eq!(rt; cause(&mut files, &rt), Err(FileError::Segment(1)));
+    assert_eq!(rt; cause(&mut files, &rt), Err(LoadError::Segment(1)));
     make(&mut files, header(40, 4096, 16), &[0, 0, 0, 0, 0])?;
-    assert_eq!(rt; cause(&mut files, &rt), Err(FileError::End(24)));
+    assert_eq!(rt; cause(&mut files, &rt), Err(LoadError::End(24)));
     Ok(())
 }
 
@@ -126,6 +126,6 @@ fn first_segment_of_no_length_is_the_whole_heap(rt: HostRuntime) -> Result<(), F
     let front = read_front(rt.alloc(), &mut files, "an.image", LIMITS)?;
     assert_eq!(rt; (front.map.len(), front.map.words()), (1, 2));
     files.fail_calls(rt.alloc(), CallKind::Read, 1)?;
-    assert_eq!(rt; cause(&mut files, &rt), Err(FileError::ReadFault));
+    assert_eq!(rt; cause(&mut files, &rt), Err(LoadError::ReadFault));
     Ok(())
 }

@@ -8,7 +8,7 @@ ghost use Rattle.image_file.specs.Told.{Tells};
 ghost use Rattle.image_file.specs.Errors.{IsFault, ReadCause};
 ghost use Rattle.image_file.specs.Held.{HasWords};
 
-use crate::FileError;
+use crate::LoadError;
 use crate::pieces::{WORD_BYTES, read_piece};
 use heap_segments::AddressMap;
 use spur_io::Files;
@@ -27,7 +27,7 @@ fn read_run<F: Files>(
     region: &mut Region,
     begin: usize,
     count: usize,
-) -> Result<(), FileError>
+) -> Result<(), LoadError>
     requires near { at + 8 * count ≤ 2 ^ 63 }
     requires piece { length piece.old ≡ WORD_BYTES * PIECE_WORDS }
     requires within { begin + count ≤ length region.old }
@@ -65,7 +65,7 @@ fn read_segments<F: Files>(
     map: &AddressMap,
     piece: &mut [u8],
     region: &mut Region,
-) -> Result<(), FileError>
+) -> Result<(), LoadError>
     requires room { total_words map.now ≤ length region.old }
     requires piece { length piece.old ≡ WORD_BYTES * PIECE_WORDS }
     ensures words { OnOk result ((file : List ℕ) → Tells (F.told files.old) name.now file → take (total_words map.now) region.new ≡ flat_map (segment_words file) map.now) }
@@ -93,15 +93,15 @@ fn new_piece(alloc: Global) -> Result<Vec<u8>, AllocError>
 /// Reads the words of the objects of all segments, one after another, to the front of the region. The words of the region behind
 /// them stay as they were.
 ///
-/// The words go through a piece of 64 KiB. The error is [`FileError::ReadFault`] or [`FileError::Memory`], or
-/// [`FileError::Short`] where the file ends within the segments; then the words at the front of the region are left open.
+/// The words go through a piece of 64 KiB. The error is [`LoadError::ReadFault`] or [`LoadError::Memory`], or
+/// [`LoadError::Short`] where the file ends within the segments; then the words at the front of the region are left open.
 pub fn read_words<F: Files>(
     alloc: Global,
     files: &mut F,
     name: &str,
     map: &AddressMap,
     region: &mut Region,
-) -> Result<(), FileError>
+) -> Result<(), LoadError>
     requires { total_words map.now ≤ length region.old }
     ensures words { OnOk result (IfSome (F.told files.old) (λ store. take (total_words map.now) region.new ≡ flat_map (segment_words (store name.now)) map.now)) }
     ensures behind { drop (total_words map.now) region.new ≡ drop (total_words map.now) region.old }
@@ -112,7 +112,7 @@ pub fn read_words<F: Files>(
     ensures other { F.write_count files.new ≡ F.write_count files.old }
 {
     let Ok(mut piece) = new_piece(alloc) else {
-        return Err(FileError::Memory);
+        return Err(LoadError::Memory);
     };
     read_segments(files, name, map, piece.as_mut_slice(), region)
 }

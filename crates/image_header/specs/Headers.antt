@@ -1,15 +1,12 @@
 -- What the header of an image says, the fault of one that can't be read, and the bytes that are written.
-use Rattle.std.specs.Prelude.{◌≡◌, ◌≤◌, ◌<◌, ℕ, ◌+◌, ◌%◌, ◌^◌, List, ◌++◌, length, take, drop, slice_index, Option, Some, None, Bool, false, if◌then◌else◌, nat_lt, nat_eq, ◌||◌, not}
-use Rattle.std.specs.Int.{w32, w64, to_le_bytes, byte_len, Width}
+use Rattle.std.specs.Prelude.{◌≡◌, ◌<◌, ℕ, ◌+◌, ◌%◌, ◌^◌, List, ◌++◌, length, take, drop, slice_index, Option, Some, None, Bool, false, if◌then◌else◌, nat_lt, nat_eq, ◌||◌, not}
+use Rattle.std.specs.Int.{w32, w64, to_le_bytes}
 use Rattle.spur_graph.specs.Bytes.{number}
 use Rattle.spur_graph.specs.ImageFile.{format, header_size, heap_bytes, base, special_word, last_hash, first_segment, header_bytes, spur_format}
+use Rattle.spur_graph.specs.ImageCauses.{greatest_base}
 use Rattle.image_header.specs.declared.header.ImageHeader.{ImageHeader}
 use Rattle.image_header.specs.declared.header.HeaderError.{HeaderError}
 use Rattle.image_header.specs.declared.header.HeaderError.TheVariants.{Format, HeaderSize, Base}
-
--- the greatest address that a heap may begin at
-abbrev pub greatest_base : ℕ
-greatest_base = 2 ^ 60
 
 -- no heap begins at this address
 abbrev pub is_bad_base : ℕ → Bool
@@ -76,10 +73,6 @@ abbrev pub Carries : Type 0
 Carries = (h : ImageHeader) → length h.carried ≡ header_bytes →
     (header_size (written h) ≡ header_size h.carried) × (take 32 (drop 40 (written h)) ≡ take 32 (drop 40 h.carried))
     × (number w64 80 (written h) ≡ 0) × (drop 88 (written h) ≡ drop 88 h.carried)
-
--- a number in the header of a file is that number of the file
-abbrev pub NumbersOfFront : Type 0
-NumbersOfFront = (w : Width) (at : ℕ) (file : List ℕ) → at + byte_len w ≤ header_bytes → number w at (take header_bytes file) ≡ number w at file
 
 -- what the first bytes of a file tell, the file tells
 abbrev pub TellsOfFile : Type 0

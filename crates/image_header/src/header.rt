@@ -3,15 +3,7 @@ ghost use Rattle.std.specs.Prelude.{◌≡◌, IfOk, MatchResult, Some, None};
 ghost use Rattle.image_header.specs.Headers.{IsHeaderOf, fault_of, is_bad_base, written};
 
 use crate::bytes::{number32, number64, put32, put64};
-
-/// The format of a 64-bit Spur image.
-const SPUR_FORMAT: u32 = 68021;
-
-/// Bytes of a header.
-const HEADER_BYTES: usize = 128;
-
-/// The greatest address that a heap may begin at.
-const GREATEST_BASE: u64 = 1 << 60;
+use spur_graph::{GREATEST_BASE, HEADER_BYTES, SPUR_FORMAT};
 
 /// What the header of an image says.
 #[derive(Clone, Copy, Debug, PartialEq, Eq)]

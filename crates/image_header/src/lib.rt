@@ -18,4 +18,4 @@ mod laws;
 mod tests;
 
 pub use header::{HeaderError, ImageHeader, read, write};
-pub use laws::{carries, numbers_of_front, reads_back, tells_of_file, writes_back};
+pub use laws::{carries, reads_back, writes_back};

@@ -5,6 +5,4 @@ pub mod Counted
 pub mod Named
 pub mod FileWords
 pub mod Accepted
-pub mod Behind
 pub mod Whole
-pub mod Joined

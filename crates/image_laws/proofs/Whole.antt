@@ -7,7 +7,7 @@ use Rattle.std.specs.List.{Contains}
 use Rattle.std.specs.FinMap.{FinMap, get, empty, get-empty}
 use Rattle.spur_graph.specs.declared.limits.Limits.{Limits}
 use Rattle.spur_graph.specs.ImageFile.{special_word, last_hash}
-use Rattle.spur_graph.specs.Segments.{segments, all_words}
+use Rattle.spur_graph.specs.Segments.{Segment, segments, all_words}
 use Rattle.spur_graph.specs.Graph.{Handle, handle_cmp}
 use Rattle.spur_graph.specs.Names.{Iso}
 use Rattle.spur_graph.specs.Step.{SameRoom}
@@ -24,6 +24,7 @@ use Rattle.spur_graph.specs.LoadedGraph.{file_name, past_name, loaded_graph, loa
 use Rattle.heap_cells.specs.Settled.{IsSettled, settled_word}
 use Rattle.heap_cells.specs.Rows.{starts_of}
 use Rattle.heap_cells.specs.RowWrites.{KeepsChunk}
+use Rattle.heap_segments.proofs.Rising.{has_its_address, in_order}
 use Rattle.heap_laws.specs.Settling.{AreNames, SameGraph, HaveChunks}
 use Rattle.heap_cells.proofs.Both.{Both, start-same}
 use Rattle.heap_cells.proofs.Cutting.{stands, row-is, all-in_order}
@@ -38,7 +39,7 @@ use Rattle.heap_cells.proofs.HandleValues.{handle_values-empty}
 use Rattle.heap_laws.proofs.Settled.{settled_is_sound, settled_is_good, settled_is_same_graph}
 use Rattle.heap_laws.proofs.SameRoom.{settled_is_same_room}
 use Rattle.image_laws.specs.Resolved.{IsSame}
-use Rattle.image_laws.specs.Whole.{IsLoaded, LoadedIsWhole, IsFile, IsHeapOf, HeapStands}
+use Rattle.image_laws.specs.Whole.{IsLoaded, LoadedIsWhole, IsFile, IsHeapOf, HeapStands, StandsInOrder}
 use Rattle.image_laws.proofs.Resolved.{resolved_is_same}
 use Rattle.image_laws.proofs.Named.{file_has_names}
 
@@ -218,10 +219,24 @@ module _ (bytes : List ℕ) (limits : Limits) (mid : Store) (room : List Chunk) 
     figures = figures;
   }
 
-pub heap_stands : HeapStands
-heap_stands bytes limits segs words mid room front v f k =
+  all_in_order : StandsInOrder bytes limits v
+  unfolding all_stands
+  all_in_order = record {
+    stands = all_stands;
+    placed = λ a s is there.
+        let named = (has_its_address (segments bytes) a s f.rising is).1 in
+        ap graphs.p (sym named) ∙ graphs.names s (subst (λ ss. Contains ss s) (sym same.cells.starts) there);
+    rising = in_order (segments bytes) f.rising;
+  }
+
+pub heap_in_order : (bytes : List ℕ) (limits : Limits) (segs : List Segment) (words : List ℕ) (mid : Store) (room : List Chunk) (front : List ℕ) (v : View) → IsFile bytes segs words → IsHeapOf bytes limits segs words mid room front v
+    → StandsInOrder bytes limits v
+heap_in_order bytes limits segs words mid room front v f k =
     let es : segs ≡ segments bytes = f.segments_are in
     let ew : words ≡ all_words bytes = f.words_are in
     let f' : IsFile bytes (segments bytes) (all_words bytes) = subst (λ ws. IsFile bytes (segments bytes) ws) ew (subst (λ ss. IsFile bytes ss words) es f) in
     let k' : IsHeapOf bytes limits (segments bytes) (all_words bytes) mid room front v = subst (λ ws. IsHeapOf bytes limits (segments bytes) ws mid room front v) ew (subst (λ ss. IsHeapOf bytes limits ss words mid room front v) es k) in
-    all_stands bytes limits mid room front v f' k'
+    all_in_order bytes limits mid room front v f' k'
+
+pub heap_stands : HeapStands
+heap_stands bytes limits segs words mid room front v f k = (heap_in_order bytes limits segs words mid room front v f k).stands

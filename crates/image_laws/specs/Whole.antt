@@ -1,19 +1,19 @@
 -- A heap whose words are the settled ones of an accepted image stands for the graph and the room of the bytes.
-use Rattle.std.specs.Prelude.{ℕ, ◌≡◌, ◌+◌, ◌*◌, ◌<◌, ◌≤◌, ◌%◌, ◌^◌, List, [], ◌++◌, length, map, slice_index, true, false}
-use Rattle.std.specs.List.{All}
+use Rattle.std.specs.Prelude.{ℕ, ◌≡◌, ◌+◌, ◌*◌, ◌<◌, ◌≤◌, ◌%◌, ◌^◌, List, [], ◌++◌, length, map, slice_index, true, false, Some}
+use Rattle.std.specs.List.{All, Contains}
 use Rattle.std.specs.FinMap.{empty}
 use Rattle.spur_graph.specs.declared.limits.Limits.{Limits}
 use Rattle.spur_graph.specs.ImageFile.{special_word, last_hash}
-use Rattle.spur_graph.specs.Segments.{Segment, segments, all_words}
+use Rattle.spur_graph.specs.Segments.{Segment, segments, all_words, word_in}
 use Rattle.object_header.specs.Chunks.{Chunk, Cuts, chunks}
 use Rattle.spur_graph.specs.Cells.{Store}
 use Rattle.spur_graph.specs.Ordinary.{is_good_reference, is_bad_forwarder}
 use Rattle.spur_graph.specs.CellRoom.{room_sizes}
-use Rattle.spur_graph.specs.ImageCauses.{most_words}
+use Rattle.spur_graph.specs.ImageCauses.{most_words, image_store}
 use Rattle.spur_graph.specs.Spaces.{fresh_spaces}
 use Rattle.spur_graph.specs.Heaps.{View, IsClear, IsCarried, IsWhole, Stands, row_store}
 use Rattle.spur_graph.specs.LoadedGraph.{loaded_graph, loaded_room}
-use Rattle.heap_segments.specs.Rising.{IsRising}
+use Rattle.heap_segments.specs.Rising.{IsRising, AreInOrder}
 use Rattle.heap_cells.specs.Settled.{IsLoadable, IsNamed, IsSettled, settled_word}
 use Rattle.image_checks.specs.Checks.{AreOf, IsResolved}
 use Rattle.spur_graph.specs.FileStores.{file_store}
@@ -63,3 +63,9 @@ pub record IsHeapOf (bytes : List ℕ) (limits : Limits) (segs : List Segment) (
 abbrev pub HeapStands : Type 0
 HeapStands = (bytes : List ℕ) (limits : Limits) (segs : List Segment) (words : List ℕ) (mid : Store) (room : List Chunk) (front : List ℕ) (v : View) → IsFile bytes segs words → IsHeapOf bytes limits segs words mid room front v
     → Stands v (loaded_graph bytes) (loaded_room bytes limits)
+
+-- the heap stands for the bytes with each object at the word that its address names, so that its objects have the order of the file's
+pub record StandsInOrder (bytes : List ℕ) (limits : Limits) (v : View) : Type 0 where
+  pub stands : Stands v (loaded_graph bytes) (loaded_room bytes limits)
+  pub placed : (a s : ℕ) → word_in (segments bytes) 0 a ≡ Some s → Contains (image_store bytes).starts s → stands.place a ≡ s
+  pub rising : AreInOrder (segments bytes)

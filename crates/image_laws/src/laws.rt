@@ -4,8 +4,6 @@ ghost use Rattle.image_laws.specs.Resolved.{ResolvedIsSame};
 ghost use Rattle.image_laws.specs.Named.{FileIsNamed, FileHasNames};
 ghost use Rattle.image_laws.specs.Whole.{LoadedIsWhole, HeapStands};
 ghost use Rattle.image_laws.specs.Counted.{RowsCount};
-ghost use Rattle.image_laws.specs.Behind.{SettledGoesOn};
-ghost use Rattle.image_laws.specs.Joined.{CheckedIsAccepted, CheckedCanSettle, MadeStands};
 ghost use Rattle.image_laws.specs.Causes.{NothingBefore, NextRow, NoneIsAccepted, LeastIsFirst, AnyIsLeast, CauseOnce, AcceptedHasNone, FileHasCauses, ResolvedHasCauses, NoneIsLost, NoneIsLoadable};
 
 /// Forwarders that name the objects to which they lead change nothing of what an image stands for.
@@ -83,11 +81,6 @@ pub fn file_has_names()
     ensures { FileHasNames }
 {}
 
-/// A free chunk behind settled words leaves them settled.
-pub fn settled_goes_on()
-    ensures { SettledGoesOn }
-{}
-
 /// A heap with the settled words of an accepted image is whole.
 pub fn loaded_is_whole()
     ensures { LoadedIsWhole }
@@ -96,21 +89,6 @@ pub fn loaded_is_whole()
 /// It stands for the graph and the room of the bytes, up to names.
 pub fn heap_stands()
     ensures { HeapStands }
-{}
-
-/// Bytes in which each pass found nothing are accepted.
-pub fn checked_is_accepted()
-    ensures { CheckedIsAccepted }
-{}
-
-/// Their words can be settled.
-pub fn checked_can_settle()
-    ensures { CheckedCanSettle }
-{}
-
-/// The settled words with the room behind them stand for the graph and the room of the bytes.
-pub fn made_stands()
-    ensures { MadeStands }
 {}
 
 /// The graph of an image that is accepted is closed.

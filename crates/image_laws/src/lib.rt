@@ -8,9 +8,8 @@
 mod laws;
 
 pub use laws::{
-    accepted_has_none, accepted_is_closed, any_is_least, cause_once, checked_can_settle,
-    checked_is_accepted, file_has_causes, file_has_names, file_is_named, heap_stands,
-    least_is_first, loaded_is_whole, made_stands, next_row, none_is_accepted, none_is_loadable,
-    none_is_lost, nothing_before, resolved_has_causes, resolved_is_same, rows_count,
-    settled_goes_on,
+    accepted_has_none, accepted_is_closed, any_is_least, cause_once, file_has_causes,
+    file_has_names, file_is_named, heap_stands, least_is_first, loaded_is_whole, next_row,
+    none_is_accepted, none_is_loadable, none_is_lost, nothing_before, resolved_has_causes,
+    resolved_is_same, rows_count,
 };

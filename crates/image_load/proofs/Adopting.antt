@@ -19,9 +19,9 @@ use Rattle.spur_graph.specs.LoadedGraph.{loaded_graph, loaded_room}
 use Rattle.spur_graph.specs.FileStores.{file_store}
 use Rattle.spur_heap.specs.Views.{Adopts, AreClear}
 use Rattle.image_settle.specs.Rooms.{HasRoom, room_chunks}
-use Rattle.image_laws.specs.Whole.{IsLoaded}
+use Rattle.image_laws.specs.Whole.{IsLoaded, StandsInOrder}
 use Rattle.image_laws.proofs.Rows.{none_is_lost}
-use Rattle.image_laws.proofs.Whole.{loaded_is_whole, heap_stands, clear_seen}
+use Rattle.image_laws.proofs.Whole.{loaded_is_whole, heap_in_order, clear_seen}
 use Rattle.image_load.specs.declared.image.Image.{Image}
 use Rattle.image_load.specs.Passes.{AreTried}
 use Rattle.image_load.specs.Images.{IsImageOf, IsSoundImage, AreSettled}
@@ -70,9 +70,9 @@ module _ (segs : List Segment) (old front all : List ℕ) (special word : ℕ) (
   clear = clear_seen (file_store segs a.mid) special all v loaded
 
   pub stands : (bytes : List ℕ) (limits : Limits) → segs ≡ segments bytes → old ≡ all_words bytes → length old ≡ total_words segs → special ≡ special_word bytes → v.hash ≡ last_hash bytes % 2 ^ 32
-      → v.limits ≡ limits → room ≡ limits.room → length all ≡ length old + limits.room → Stands v (loaded_graph bytes) (loaded_room bytes limits)
+      → v.limits ≡ limits → room ≡ limits.room → length all ≡ length old + limits.room → StandsInOrder bytes limits v
   stands bytes limits es ew total special_is state within size long =
-      heap_stands bytes limits segs old (file_store segs a.mid) (room_chunks (length front) room) all v
+      heap_in_order bytes limits segs old (file_store segs a.mid) (room_chunks (length front) room) all v
       (record { segments_are = es; words_are = ew; rising = a.rising; of = total; cut = a.cut; ends = none_is_lost (file_store segs old) a.lost })
       (record {
         resolved = a.resolved;
@@ -124,7 +124,7 @@ module _ (image : Image) (sound : IsSoundImage image) (front region : List ℕ) 
   pub image_clear : AreClear view
   image_clear = clear image.map (take (total_words image.map) image.bare.region) front (take image.bare.old_end region) image.header.special word a view image.bare.limits.room r (drop image.bare.old_end region) words places behind refl refl refl bits sound.carried few
 
-  pub image_stands : (bytes : List ℕ) → IsImageOf bytes image → Stands view (loaded_graph bytes) (loaded_room bytes image.bare.limits)
+  pub image_stands : (bytes : List ℕ) → IsImageOf bytes image → StandsInOrder bytes image.bare.limits view
   image_stands bytes i =
       let old : List ℕ = take (total_words image.map) image.bare.region in
       let all : length old ≡ total_words image.map = let o = sound.old in let l = sound.long in omega (arith, length-take (total_words image.map) image.bare.region, o, l) in
@@ -139,6 +139,14 @@ adopted_stands v new g room a whole s = record {
   back = s.back;
   graph = subst (λ h. Iso g h s.place s.back) (sym a.graph) s.graph;
   figures = subst (λ r. SameRoom room r s.place) (sym a.room) s.figures;
+}
+
+pub adopted_in_order : (v new : View) (bytes : List ℕ) (limits : Limits) → Adopts v new → IsWhole new → StandsInOrder bytes limits v → StandsInOrder bytes limits new
+unfolding adopted_stands
+adopted_in_order v new bytes limits a whole s = record {
+  stands = adopted_stands v new (loaded_graph bytes) (loaded_room bytes limits) a whole s.stands;
+  placed = s.placed;
+  rising = s.rising;
 }
 
 -- what holds of an answer of one kind

@@ -1,15 +1,24 @@
 -- What resolved forwarders leave as it was.
-use Rattle.std.proofs.Common.{◌≡◌, ℕ, List, length, sym, ◌∙◌}
+use Rattle.std.proofs.Common.{◌≡◌, ℕ, ◌-◌, List, length, sym, ap, ◌∙◌, arith}
 use Rattle.heap_walk.specs.declared.starts.StartMap.{StartMap}
 use Rattle.heap_walk.specs.Starts.{has_start, covered}
-use Rattle.spur_graph.specs.Segments.{Segment}
-use Rattle.object_header.specs.Chunks.{chunks}
+use Rattle.spur_graph.specs.Segments.{Segment, word_in}
+use Rattle.spur_graph.specs.Cells.{cell_in, is_start}
+use Rattle.object_header.specs.Chunks.{chunks_from, chunks, row, starts_in}
+use Rattle.heap_cells.proofs.Starts.{start-of-row}
 use Rattle.image_checks.specs.Checks.{IsCut, HasStarts, IsResolved, IsLost}
 use Rattle.spur_graph.specs.FileStores.{file_store}
 use Rattle.image_checks.proofs.Resolved.{keeps-five}
 use Rattle.image_laws.proofs.Resolved.{resolved_is_same}
 use Rattle.image_laws.proofs.Rows.{none_is_lost}
 use Rattle.image_load.specs.Passes.{AreGoodChunks, AreForwarded}
+
+-- the map of a row of chunks has the starts of the words' store
+pub starts_marked : (segs : List Segment) (words : List ℕ) (map : StartMap) → ((s : ℕ) → has_start map s ≡ starts_in words (row words 0 (length words)) s) → HasStarts (file_store segs words) (has_start map)
+unfolding chunks
+starts_marked segs words map marked s =
+    let all : length words - 0 ≡ length words = omega arith in
+    marked s ∙ start-of-row (word_in segs 0) words (row words 0 (length words)) s ∙ ap (λ n. is_start (cell_in (word_in segs 0) words (chunks_from n words 0 (length words)) s)) all
 
 pub forwarded : (segs : List Segment) (old new firsts : List ℕ) (starts : StartMap) → AreGoodChunks segs old firsts → IsResolved (file_store segs old) (file_store segs new)
     → ((n : ℕ) → IsLost (file_store segs old) n → ⊥) → IsCut segs new → HasStarts (file_store segs new) (has_start starts) → covered starts ≡ length new → chunks new ≡ chunks old → length new ≡ length old

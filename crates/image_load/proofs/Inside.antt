@@ -5,17 +5,17 @@ use Rattle.spur_graph.specs.Segments.{Segment, word_in}
 use Rattle.object_header.specs.Chunks.{chunks}
 use Rattle.spur_graph.specs.Cells.{Store, final, is_moved, is_there, pointer_count}
 use Rattle.spur_graph.specs.Ordinary.{page_places, page_entries, class_limit, body_at, root_slot, is_nil_slot, is_ordinary, is_good_word, is_bad_page, is_bad_entry, has_page, page_of}
-use Rattle.image_checks.specs.Checks.{IsCut, IsLost, IsBadPlace, IsBadPointer}
+use Rattle.image_checks.specs.Checks.{IsCut, IsLost, IsBadPlace}
+use Rattle.image_references.specs.References.{IsBadPointer}
 use Rattle.spur_graph.specs.FileStores.{file_store}
 use Rattle.image_checks.specs.Checked.{AreFirst, HasPages}
 use Rattle.heap_cells.proofs.Cutting.{all-in_order}
 use Rattle.heap_cells.proofs.CellKinds.{moved_starts}
 use Rattle.heap_cells.proofs.Starts.{start-read}
 use Rattle.std.specs.Option.{unwrap_or}
-use Rattle.image_checks.proofs.Objects.{root_word}
+use Rattle.image_checks.proofs.Objects.{root_word, stands_ordinary, fit_ordinary}
 use Rattle.image_checks.proofs.Paging.{unnamed_bad}
 use Rattle.image_checks.proofs.ClassEntries.{page_here, page_end}
-use Rattle.image_checks.proofs.Pointers.{stands_ordinary, fit_ordinary}
 
 pub no_bad_pages : (h : Store) → ((i : ℕ) → IsBadPlace h i → ⊥) → HasPages h
 no_bad_pages h none i low = elim (cases_Bool (is_bad_page h i)) [ inl on ↦ absurd (none i (low, on)) | inr off ↦ off ]

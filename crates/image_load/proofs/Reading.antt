@@ -5,13 +5,12 @@ use Rattle.spur_graph.specs.declared.limits.Limits.{Limits}
 use Rattle.spur_graph.specs.Segments.{Segment, segments, segment_words, all_words, total_words}
 use Rattle.spur_heap.specs.declared.bare.Bare.{Bare}
 use Rattle.image_file.specs.Passed.{Passes}
-use Rattle.image_file.specs.Errors.{IsFault}
+use Rattle.image_file.specs.Errors.{IsFault, IsCauseOf}
 use Rattle.image_file.specs.Whole.{IsFrontOf, last_row}
 use Rattle.image_file.specs.declared.front.Front.{Front}
-use Rattle.image_file.specs.declared.error.FileError.{FileError}
-use Rattle.image_file.specs.declared.error.FileError.TheVariants as file
-use Rattle.image_load.specs.Loaded.{IsCauseOf}
-use Rattle.image_load.specs.Images.{IsImageOf, load_error}
+use Rattle.image_file.specs.declared.error.LoadError.{LoadError}
+use Rattle.image_file.specs.declared.error.LoadError.TheVariants as errors
+use Rattle.image_load.specs.Images.{IsImageOf}
 
 all_are : (bytes : List ℕ) (segs : List Segment) → segs ≡ segments bytes → flat_map (segment_words bytes) segs ≡ all_words bytes
 unfolding all_words
@@ -29,13 +28,7 @@ image_of bytes limits f bare same front words = record {
 }
 
 -- a fault of the store tells of no cause
-pub fault_told : (bytes : List ℕ) (limits : Limits) (e : FileError) → IsFault e → IsCauseOf bytes limits (load_error e)
-fault_told bytes limits (file.Short n) k = absurd k
-fault_told bytes limits (file.Format n) k = absurd k
-fault_told bytes limits (file.HeaderSize n) k = absurd k
-fault_told bytes limits (file.Base n) k = absurd k
-fault_told bytes limits (file.Large n) k = absurd k
-fault_told bytes limits (file.Segment n) k = absurd k
-fault_told bytes limits (file.End n) k = absurd k
-fault_told bytes limits file.ReadFault k = k
-fault_told bytes limits file.Memory k = k
+pub fault_told : (bytes : List ℕ) (limits : Limits) (e : LoadError) → IsFault e → IsCauseOf bytes limits e
+fault_told bytes limits errors.ReadFault k = k
+fault_told bytes limits errors.Memory k = k
+fault_told bytes limits other k = absurd k

@@ -9,12 +9,13 @@ use Rattle.spur_graph.specs.Ordinary.{is_good_reference}
 use Rattle.spur_graph.specs.Places.{IsBadRoot}
 use Rattle.spur_graph.specs.ImageCauses.{Row, BadObject, BadRoot, BadForwarder, BadPage, BadEntry, BadSlot, BadSpecial, Object, Roots, Forwarder, Class, Slot, Special, number, told, entry_word, IsLeast, FirstCause, IsAccepted}
 use Rattle.heap_walk.specs.declared.starts.StartMap.{StartMap}
-use Rattle.image_checks.specs.Checks.{IsBadIn, IsLost, IsBadPlace, IsBadIndex, IsBadPointer}
+use Rattle.image_checks.specs.Checks.{IsBadIn, IsLost, IsBadPlace, IsBadIndex}
+use Rattle.image_references.specs.References.{IsBadPointer}
 use Rattle.spur_graph.specs.FileStores.{file_store}
 use Rattle.image_laws.specs.Causes.{AreKeys}
 use Rattle.image_laws.proofs.Causes.{next_row, none_is_accepted, least_is_first}
 use Rattle.image_laws.proofs.Rows.{file_has_causes, resolved_has_causes}
-use Rattle.image_load.specs.declared.error.LoadError.TheVariants as errors
+use Rattle.image_file.specs.declared.error.LoadError.TheVariants as errors
 use Rattle.image_load.specs.Passes.{Reaches, TellsFrom, TellsOf, AreGoodChunks, AreForwarded, HasClasses, HasValues, AreTried}
 
 -- ---- rows one after another

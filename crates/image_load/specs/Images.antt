@@ -15,23 +15,7 @@ use Rattle.spur_graph.specs.FileStores.{file_store}
 use Rattle.image_settle.specs.Rooms.{IsAlone}
 use Rattle.image_file.specs.Passed.{Passes}
 use Rattle.image_file.specs.Whole.{last_row}
-use Rattle.image_file.specs.declared.error.FileError.{FileError}
-use Rattle.image_file.specs.declared.error.FileError.TheVariants as file
-use Rattle.image_load.specs.declared.error.LoadError.{LoadError}
-use Rattle.image_load.specs.declared.error.LoadError.TheVariants as errors
 use Rattle.image_load.specs.declared.image.Image.{Image}
-
--- the error of a file is told as it is
-abbrev pub load_error : FileError → LoadError
-load_error (file.Short n) = errors.Short n
-load_error (file.Format n) = errors.Format n
-load_error (file.HeaderSize n) = errors.HeaderSize n
-load_error (file.Base n) = errors.Base n
-load_error (file.Large n) = errors.Large n
-load_error (file.Segment n) = errors.Segment n
-load_error (file.End n) = errors.End n
-load_error file.ReadFault = errors.ReadFault
-load_error file.Memory = errors.Memory
 
 -- what was read is of these bytes, to which no cause before those of objects applies
 pub record IsImageOf (bytes : List ℕ) (image : Image) : Type 0 where

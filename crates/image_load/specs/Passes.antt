@@ -11,14 +11,15 @@ use Rattle.spur_graph.specs.Cells.{Store}
 use Rattle.spur_graph.specs.Ordinary.{is_good_reference}
 use Rattle.spur_graph.specs.Places.{IsBadRoot}
 use Rattle.spur_graph.specs.ImageCauses.{Row, BadObject, BadSlot}
-use Rattle.image_checks.specs.Checks.{IsBadIn, IsCut, IsResolved, IsLost, IsBadPlace, IsBadIndex, IsBadPointer, HasOrdinary}
+use Rattle.image_checks.specs.Checks.{IsBadIn, IsCut, IsResolved, IsLost, IsBadPlace, IsBadIndex, HasOrdinary}
+use Rattle.image_references.specs.References.{IsBadPointer}
 use Rattle.spur_graph.specs.FileStores.{file_store}
 use Rattle.image_checks.specs.Checked.{IsChecked, AreFirst}
 use Rattle.image_laws.specs.Causes.{AreCauses, NoneBefore}
-use Rattle.image_load.specs.declared.error.LoadError.{LoadError}
-use Rattle.image_load.specs.declared.error.LoadError.TheVariants as errors
+use Rattle.image_file.specs.declared.error.LoadError.{LoadError}
+use Rattle.image_file.specs.declared.error.LoadError.TheVariants as errors
 use Rattle.image_load.specs.declared.checks.Found.{Found}
-use Rattle.image_load.specs.Loaded.{IsCauseOf}
+use Rattle.image_file.specs.Errors.{IsCauseOf}
 
 -- ---- errors
 
@@ -80,9 +81,8 @@ pub record AreTried (bytes : List ℕ) (limits : Limits) (segs : List Segment) (
   pub special_is : special ≡ special_word bytes
   pub before : NoneBefore bytes limits BadObject
 
--- the words have passed all, and these maps and starts are what was found in them
-pub record HavePassed (segs : List Segment) (old new : List ℕ) (special : ℕ) (f : Found) : Type 0 where
+-- the words have passed all but the test of values, and these maps and starts are what was found in them
+pub record HavePassed (segs : List Segment) (old new : List ℕ) (f : Found) : Type 0 where
   pub chunks_are : AreGoodChunks segs old f.firsts
   pub forwarded : AreForwarded segs old new f.firsts f.starts
   pub classes : HasClasses segs new f.ordinary
-  pub values : HasValues segs new special

@@ -1,26 +1,24 @@
 // The passes over the words of an image, in the order of the causes.
-ghost use Rattle.std.specs.Prelude.{◌≡◌, ◌<◌, ◌≤◌, ℕ, List, length, true, IfOk, IfErr, OnOk};
+ghost use Rattle.std.specs.Prelude.{◌≡◌, ◌<◌, ◌≤◌, ℕ, List, length, true, IfOk, IfErr};
 ghost use Rattle.spur_graph.specs.declared.limits.Limits.{Limits};
-ghost use Rattle.spur_graph.specs.ImageCauses.{BadObject, BadForwarder, BadPage, entry_word, IsAccepted};
+ghost use Rattle.spur_graph.specs.ImageCauses.{BadObject, BadForwarder, BadPage, entry_word};
 ghost use Rattle.spur_graph.specs.Ordinary.{is_bad_entry};
-ghost use Rattle.image_checks.specs.Checks.{AreOf, IsCut, HasOrdinary};
+ghost use Rattle.image_checks.specs.Checks.{AreOf, IsCut};
 ghost use Rattle.spur_graph.specs.FileStores.{file_store};
 ghost use Rattle.image_checks.specs.Checked.{IsChecked, AreFirst, HasPages};
-ghost use Rattle.heap_walk.specs.Starts.{has_start, covered};
-ghost use Rattle.image_load.specs.Loaded.{IsCauseOf};
-ghost use Rattle.image_load.specs.Passes.{TellsFrom, TellsOf, IsNoFault, AreGoodChunks, AreForwarded, HasClasses, HasValues, AreTried, HavePassed};
+ghost use Rattle.image_file.specs.Errors.{IsCauseOf};
+ghost use Rattle.image_load.specs.Passes.{TellsFrom, IsNoFault, AreGoodChunks, AreForwarded, HasClasses, AreTried, HavePassed};
 
 use crate::LoadError;
 use heap_segments::AddressMap;
-use heap_walk::StartMap;
+use heap_walk::{StartMap, mark_starts};
 use image_checks::{
-    first_bad_entry, first_bad_object, first_bad_root, first_bad_slot, is_good_reference,
-    mark_objects, mark_starts, resolve_forwarders, take_pages,
+    first_bad_entry, first_bad_object, first_bad_root, mark_objects, resolve_forwarders, take_pages,
 };
 use spur_graph::{HIDDEN_ROOTS, PAGE_ENTRIES};
 use std::alloc::Global;
 
-/// What was found in the words of an image to which no cause applies.
+/// What was found in the words of an image to which no cause before that of values applies.
 #[derive(Drop)]
 pub(crate) struct Found {
     /// The starts of objects and forwarders.
@@ -68,7 +66,7 @@ fn check_forwarders(
     let Ok(mut starts) = StartMap::new(alloc, words.len()) else {
         return Err(LoadError::Memory);
     };
-    mark_starts(words, &mut starts);
+    mark_starts(words, words.len(), &mut starts);
     match resolve_forwarders(words, map, &starts) {
         Ok(()) => Ok(starts),
         Err(at) => Err(LoadError::Forwarder(map.offset(at))),
@@ -121,47 +119,13 @@ fn check_classes(
     }
 }
 
-/// Tests pointers and the special objects reference. The error is [`LoadError::Slot`] or [`LoadError::Special`].
-fn check_values(
-    words: &[u64],
-    map: &AddressMap,
-    starts: &StartMap,
-    ordinary: &StartMap,
-    special: u64,
-) -> Result<(), LoadError>
-    requires all { AreOf map.now words.now }
-    requires some { 0 < length map.now }
-    requires checked { IsChecked map.now words.now starts.now }
-    requires covers { covered ordinary.now ≡ length words.now }
-    requires map { HasOrdinary (file_store map.now words.now) (has_start ordinary.now) }
-    ensures values { OnOk result (HasValues map.now words.now special) }
-    ensures told { IfErr result (λ e. (old : List ℕ) → TellsOf map.now old (file_store map.now words.now) special e) }
-    ensures fault { IfErr result IsNoFault }
-{
-    match first_bad_slot(words, map, starts, ordinary) {
-        Ok(()) => {}
-        Err(at) => return Err(LoadError::Slot(map.offset(at))),
-    }
-    if is_good_reference(words, map, starts, ordinary, special) {
-        Ok(())
-    } else {
-        Err(LoadError::Special(special))
-    }
-}
-
-/// Tests the words of an image's objects and resolves its forwarders. `special` is the image's special objects reference. The
-/// error is the first cause that applies to the words, or [`LoadError::Memory`].
-pub(crate) fn check(
-    alloc: Global,
-    words: &mut [u64],
-    map: &AddressMap,
-    special: u64,
-) -> Result<Found, LoadError>
+/// Tests the chunks of an image's objects and the class table, and resolves the forwarders. The error is the first cause that applies to the words, or
+/// [`LoadError::Memory`].
+pub(crate) fn check(alloc: Global, words: &mut [u64], map: &AddressMap) -> Result<Found, LoadError>
     requires all { AreOf map.now words.old }
     requires some { 0 < length map.now }
-    ensures passed { IfOk result (HavePassed map.now words.old words.new special) }
-    ensures accepted { IfOk result (λ _. (bytes : List ℕ) (limits : Limits) → AreTried bytes limits map.now words.old special → IsAccepted bytes limits) }
-    ensures refused { IfErr result (λ e. (bytes : List ℕ) (limits : Limits) → AreTried bytes limits map.now words.old special → IsCauseOf bytes limits e) }
+    ensures passed { IfOk result (HavePassed map.now words.old words.new) }
+    ensures refused { IfErr result (λ e. (bytes : List ℕ) (limits : Limits) (special : ℕ) → AreTried bytes limits map.now words.old special → IsCauseOf bytes limits e) }
     ensures fault { IfErr result IsNoFault }
     ensures long { length words.new ≡ length words.old }
 {
@@ -173,12 +137,8 @@ pub(crate) fn check(
         Ok(starts) => starts,
         Err(error) => return Err(error),
     };
-    let ordinary = match check_classes(alloc, words, map, &starts, &firsts) {
-        Ok(ordinary) => ordinary,
-        Err(error) => return Err(error),
-    };
-    match check_values(words, map, &starts, &ordinary, special) {
-        Ok(()) => Ok(Found {
+    match check_classes(alloc, words, map, &starts, &firsts) {
+        Ok(ordinary) => Ok(Found {
             starts,
             ordinary,
             firsts,

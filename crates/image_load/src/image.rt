@@ -1,6 +1,7 @@
 // An image in memory, as it was read.
 ghost use Rattle.std.specs.Prelude.{◌≡◌, IfOk, IfErr, IfSome};
-ghost use Rattle.image_load.specs.Loaded.{AreLimits, IsCauseOf, LoadCause};
+ghost use Rattle.image_file.specs.Errors.{IsCauseOf};
+ghost use Rattle.image_load.specs.Loaded.{AreLimits, LoadCause};
 ghost use Rattle.image_load.specs.Images.{IsImageOf, IsSoundImage};
 
 use crate::LoadError;
@@ -42,13 +43,13 @@ pub(crate) fn read_image<F: Files>(
 {
     let Front { header, map } = match read_front(alloc, files, name, limits) {
         Ok(front) => front,
-        Err(error) => return Err(LoadError::from(error)),
+        Err(error) => return Err(error),
     };
     let Ok(mut bare) = Bare::new(alloc, map.words() + limits.room, limits) else {
         return Err(LoadError::Memory);
     };
     match read_words(alloc, files, name, &map, bare.region_mut()) {
         Ok(()) => Ok(Image { header, map, bare }),
-        Err(error) => Err(LoadError::from(error)),
+        Err(error) => Err(error),
     }
 }

@@ -12,12 +12,11 @@
 #![tactic(auto)]
 
 mod checks;
-mod error;
 mod image;
 mod loader;
 mod objects;
 #[cfg(test)]
 mod tests;
 
-pub use error::LoadError;
+pub use image_file::LoadError;
 pub use loader::load;

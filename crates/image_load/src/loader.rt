@@ -5,7 +5,9 @@ ghost use Rattle.spur_graph.specs.ImageFile.{header_bytes};
 ghost use Rattle.spur_graph.specs.ImageCauses.{IsAccepted};
 ghost use Rattle.spur_graph.specs.LoadedGraph.{loaded_graph, loaded_room};
 ghost use Rattle.spur_graph.specs.Heaps.{Stands, Whole};
-ghost use Rattle.image_load.specs.Loaded.{AreLimits, IsCauseOf, LoadCause};
+ghost use Rattle.image_file.specs.Errors.{IsCauseOf};
+ghost use Rattle.image_laws.specs.Whole.{StandsInOrder};
+ghost use Rattle.image_load.specs.Loaded.{AreLimits, LoadCause};
 ghost use Rattle.image_load.specs.Passes.{IsNoFault};
 ghost use Rattle.image_load.specs.Images.{IsImageOf, IsSoundImage};
 
@@ -25,6 +27,7 @@ const HASH_STATES: u64 = 1 << 32;
 fn adopt(alloc: Global, image: Image) -> Result<Heap, LoadError>
     requires { IsSoundImage image }
     ensures stands { IfOk result (λ h. (bytes : List ℕ) → IsImageOf bytes image → IsAccepted bytes image.bare.limits × Stands h (loaded_graph bytes) (loaded_room bytes image.bare.limits)) }
+    ensures order { IfOk result (λ h. (bytes : List ℕ) → IsImageOf bytes image → StandsInOrder bytes image.bare.limits h) }
     ensures fresh { IfOk result (λ h. (h.handles ≡ map.empty) × (h.limits ≡ image.bare.limits)) }
     ensures carried { IfOk result (λ h. h.carried ≡ image.header.carried) }
     ensures unmarked { IfOk result (λ h. h.phase ≡ Whole) }
@@ -54,7 +57,8 @@ fn adopt(alloc: Global, image: Image) -> Result<Heap, LoadError>
     Ok(heap)
 }
 
-/// Loads the image file of this name, with room for further objects as the limits say.
+/// Loads the image file of this name, with room for further objects as the limits say. Each object stands at the word that its address names, so that
+/// the objects keep the order that they have in the file.
 pub fn load<F: Files>(
     alloc: Global,
     files: &mut F,
@@ -63,6 +67,7 @@ pub fn load<F: Files>(
 ) -> Result<Heap, LoadError>
     requires { AreLimits limits }
     ensures stands { IfOk result (λ h. IfSome (F.told files.old) (λ store. IsAccepted (store name.now) limits × Stands h (loaded_graph (store name.now)) (loaded_room (store name.now) limits))) }
+    ensures order { IfOk result (λ h. IfSome (F.told files.old) (λ store. StandsInOrder (store name.now) limits h)) }
     ensures fresh { IfOk result (λ h. (h.handles ≡ map.empty) × (h.limits ≡ limits)) }
     ensures unmarked { IfOk result (λ h. h.phase ≡ Whole) }
     ensures carried { IfOk result (λ h. IfSome (F.told files.old) (λ store. h.carried ≡ take header_bytes (store name.now))) }

@@ -4,13 +4,14 @@ ghost use Rattle.spur_graph.specs.declared.limits.Limits.{Limits};
 ghost use Rattle.spur_graph.specs.ImageCauses.{IsAccepted};
 ghost use Rattle.spur_graph.specs.Segments.{total_words};
 ghost use Rattle.image_checks.specs.Checks.{AreOf};
-ghost use Rattle.image_load.specs.Loaded.{IsCauseOf};
+ghost use Rattle.image_file.specs.Errors.{IsCauseOf};
 ghost use Rattle.image_load.specs.Passes.{AreTried, IsNoFault};
 ghost use Rattle.image_load.specs.Images.{AreSettled};
 
 use crate::LoadError;
 use crate::checks::check;
 use heap_segments::AddressMap;
+use image_checks::is_good_reference;
 use image_settle::{settle, settled_word};
 use spur_words::Region;
 use std::alloc::Global;
@@ -35,11 +36,12 @@ fn settle_objects(
 {
     // That the segments rise is known of each map.
     let _segments = map.len();
-    let found = match check(alloc, words, map, special) {
+    let found = match check(alloc, words, map) {
         Ok(found) => found,
         Err(error) => return Err(error),
     };
-    // The reference is followed while the words of forwarders are addresses.
+    // The reference is followed while the words of forwarders are addresses, and judged when all slots have passed.
+    let is_good = is_good_reference(words, map, &found.starts, &found.ordinary, special);
     let word = settled_word(
         words,
         map,
@@ -48,8 +50,15 @@ fn settle_objects(
         found.firsts[0],
         special,
     );
-    settle(words, map, &found.starts, &found.ordinary, &found.firsts);
-    Ok(word)
+    match settle(words, map, &found.starts, &found.ordinary, &found.firsts) {
+        Ok(()) => {}
+        Err(slot) => return Err(LoadError::Slot(map.offset(slot))),
+    }
+    if is_good {
+        Ok(word)
+    } else {
+        Err(LoadError::Special(special))
+    }
 }
 
 /// The same of the words at the front of a region.

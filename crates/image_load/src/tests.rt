@@ -102,7 +102,7 @@ fn heap_with_new_space_reads_as_without(rt: HostRuntime) -> Result<(), Fail> {
     write_base_image(&mut files, "an.image")?;
     let heap = load(rt.alloc(), &mut files, "an.image", LIMITS)?;
     let wide = load(rt.alloc(), &mut files, "an.image", WIDE)?;
-    // nil, false and true are the first objects, and the special objects array is the last
+    // objects stand in the order of the file: nil, false and true are the first, and the special objects array is the last
     assert_eq!(rt; (wide.nil(), wide.no(), wide.yes()), (0, 16, 32));
     assert_eq!(rt; (heap.nil(), heap.no(), heap.yes()), (0, 16, 32));
     let special = wide.special();

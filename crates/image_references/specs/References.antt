@@ -1,12 +1,12 @@
 -- What the words and the maps of an image tell of where its references lead.
-use Rattle.std.specs.Prelude.{ℕ, ◌≡◌, ◌+◌, ◌<◌, List, length, slice_index, true, nat_eq}
+use Rattle.std.specs.Prelude.{ℕ, ◌≡◌, ◌≢◌, ◌+◌, ◌<◌, List, length, slice_index, true, nat_eq}
 use Rattle.object_header.specs.Head.{class_of}
 use Rattle.object_header.specs.declared.header.TheConstants.{FORWARDER_CLASS}
 use Rattle.heap_walk.specs.declared.starts.StartMap.{StartMap}
 use Rattle.heap_walk.specs.Starts.{has_start, covered}
 use Rattle.spur_graph.specs.Segments.{Segment, word_in}
 use Rattle.spur_graph.specs.Cells.{Moved, Store, start_named, is_start, is_moved, is_there, target_of}
-use Rattle.spur_graph.specs.Ordinary.{is_ordinary}
+use Rattle.spur_graph.specs.Ordinary.{body_at, is_ordinary, is_bad_slot}
 
 -- the words tell where those of a store lead, though other words than headers and those of forwarders may be written already: the map has the starts
 -- of objects and forwarders, and each forwarder names the object to which it leads
@@ -24,3 +24,11 @@ pub record Leads (h : Store) (segs : List Segment) (start_map : StartMap) (words
 pub record HasOrdinary (h : Store) (ordinary_map : StartMap) : Type 0 where
   pub has : (s : ℕ) → has_start ordinary_map s ≡ is_ordinary h s
   pub covers : covered ordinary_map ≡ h.names
+
+-- a pointer slot of this object, of another format than 3, that has no value
+abbrev pub IsBadPointerOf : Store → ℕ → ℕ → Type 0
+IsBadPointerOf h s n = (i : ℕ) × (n ≡ s + 1 + i) × ((body_at h s).format ≢ 3) × (is_bad_slot h s i ≡ true)
+
+-- a pointer slot, of an object of another format than 3, that has no value
+abbrev pub IsBadPointer : Store → ℕ → Type 0
+IsBadPointer h n = (s i : ℕ) × (n ≡ s + 1 + i) × ((body_at h s).format ≢ 3) × (is_bad_slot h s i ≡ true)

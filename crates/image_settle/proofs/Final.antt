@@ -21,7 +21,7 @@ use Rattle.heap_cells.proofs.Cutting.{Stands, stands, shape, cell-at, chunks-are
 use Rattle.heap_cells.proofs.ObjectWrites.{to_object}
 use Rattle.heap_cells.proofs.Writing.{keeps-row, keeps-same, cells-mapped}
 use Rattle.heap_cells.proofs.Fronts.{length-front, front-in, length-from, from-in}
-use Rattle.image_settle.specs.Settles.{IsReady, IsCleared, IsTurned, unmarked, settled_slot, slot_in}
+use Rattle.image_settle.specs.Settles.{IsReady, IsCleared, IsTurned, HaveNoForwarder, unmarked, settled_slot, slot_in}
 use Rattle.spur_graph.specs.FileStores.{file_store}
 use Rattle.image_settle.proofs.Ready.{told}
 
@@ -130,6 +130,11 @@ module _ (segs : List Segment) (start_map ordinary_map : StartMap) (firsts old :
 
   pub mid_row : Cuts mid 0 (length mid) (chunks mid)
   mid_row = subst (Cuts mid 0 (length mid)) (sym mid_chunks) row
+
+  pub mid_others : HaveNoForwarder old cs → HaveNoForwarder mid (chunks mid)
+  mid_others none c m e =
+      let k = subst (λ xs. Contains xs c) mid_chunks m in
+      none c k (sym (ap (λ (f : Fields). f.class) (header c k)) ∙ e)
 
   module _ (new : List ℕ) (new_len : length new ≡ length mid)
       (turns : (c : Chunk) → Contains (chunks mid) c → (j : ℕ) → c.at ≤ j → j < c.at + c.size → IsTurned segs mid c j (get_or new j 0)) where

@@ -3,7 +3,6 @@ use Rattle.std.proofs.Common.{◌≡◌, ℕ, refl, ap, ◌∙◌}
 use Rattle.object_header.specs.Field.{field_of}
 use Rattle.object_header.specs.Fields.{Fields, fields_of}
 use Rattle.image_settle.specs.Settles.{unmarked}
-use Rattle.image_settle.specs.Rooms.{free_fields}
 
 -- a header of zeros into which six fields are set
 abbrev six : ℕ → ℕ → ℕ → ℕ → ℕ → ℕ → Fields
@@ -29,9 +28,3 @@ built f n0 n1 n2 n3 n4 n5 w0 w1 w2 w3 w4 w5 e0 f0 e1 f1 e2 f2 e3 f3 e4 f4 e5 f5 
     let a4 : fields_of w4 ≡ six n0 n1 n2 n3 n4 0 = f4 ∙ ap (λ (x : Fields). record x { readonly = n4 }) a3 in
     let a5 : fields_of w5 ≡ six n0 n1 n2 n3 n4 n5 = f5 ∙ ap (λ (x : Fields). record x { class = n5 }) a4 in
     a5 ∙ (λ i. six (e0 i) (e1 i) (e2 i) (e3 i) (e4 i) (e5 i))
-
-pub built_free : (n w0 w1 w2 : ℕ) → fields_of w0 ≡ record (fields_of 0) { count = n } → fields_of w1 ≡ record (fields_of w0) { format = 9 } → fields_of w2 ≡ record (fields_of w1) { class = 0 } → fields_of w2 ≡ free_fields n
-built_free n w0 w1 w2 f0 f1 f2 =
-    let a0 : fields_of w0 ≡ six n 0 0 0 0 0 = f0 ∙ ap (λ (x : Fields). record x { count = n }) zero_fields in
-    let a1 : fields_of w1 ≡ six n 0 0 9 0 0 = f1 ∙ ap (λ (x : Fields). record x { format = 9 }) a0 in
-    f2 ∙ ap (λ (x : Fields). record x { class = 0 }) a1

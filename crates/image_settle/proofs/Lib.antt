@@ -2,8 +2,10 @@ pub mod Headers
 pub mod Leading
 pub mod Mapped
 pub mod Slots
+pub mod Values
 pub mod Walking
 pub mod Steps
 pub mod Ready
+pub mod Finding
 pub mod Final
 pub mod Rooms

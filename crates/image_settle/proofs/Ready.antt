@@ -25,13 +25,13 @@ unfolding read_cell
 told to old c = refl
 
 module _ (segs : List Segment) (start_map ordinary_map : StartMap) (firsts old : List ℕ) (r : IsReady segs start_map ordinary_map firsts old) where
-  abbrev h : Store
+  abbrev pub h : Store
   h = file_store segs old
 
-  abbrev cs : List Chunk
+  abbrev pub cs : List Chunk
   cs = chunks old
 
-  read : (s : ℕ) → is_start (h.cell s) ≡ true → ReadsStart (word_in segs 0) old (length old) cs s
+  pub read : (s : ℕ) → is_start (h.cell s) ≡ true → ReadsStart (word_in segs 0) old (length old) cs s
   read s k = start-read (word_in segs 0) old (length old) cs s (all-in_order old r.cut) k
 
   ready_leads : Leads h segs start_map old
@@ -50,14 +50,14 @@ module _ (segs : List Segment) (start_map ordinary_map : StartMap) (firsts old :
   ready_follows = record {
     leads = ready_leads;
     below = r.named.below;
-    nil = let k = (read (first h 0) (there_starts (h.cell (first h 0)) (r.loadable.objects 0 (omega arith)))).below in omega arith;
+    nil = let k = (read (first h 0) (there_starts (h.cell (first h 0)) r.nil)).below in omega arith;
     small = r.small;
   }
 
   pub ready_ordinary : HasOrdinary h ordinary_map
   ready_ordinary = record { has = r.ordinary; covers = r.covers.1 }
 
-  rise : AreStarts old (length old) cs
+  pub rise : AreStarts old (length old) cs
   rise = starts-rise old (length old) cs (all-in_order old r.cut)
 
   pub next : (new : List ℕ) (at : ℕ) (c : Chunk) → Comes old cs at c → length new ≡ length old → ((j : ℕ) → at ≤ j → get_or new j 0 ≡ get_or old j 0) → IsNext h new (get_or new c.start 0) c.start c.slots
@@ -76,7 +76,7 @@ module _ (segs : List Segment) (start_map ordinary_map : StartMap) (firsts old :
             ∙ ap (λ ws. cell_from (fields_of (get_or new c.start 0)) (start_named (word_in segs 0) old (get_or old (c.start + 1) 0)) (take c.slots ws)) (sym rest);
         below = omega (arith, l.room, l.before, len);
         fits = omega (arith, l.slots, l.before, len);
-        formed = r.loadable.formed c.start;
+        formed = r.formed c.start;
         loose = λ t j a b. record {
           header = λ s e is. elim (cases_lt s c.start) [
             | inl m ↦ omega (arith, is)

@@ -4,7 +4,7 @@ use Rattle.std.specs.List.{All}
 use Rattle.std.proofs.lemmas.Bool.{cases_Bool, ne_eqb, eq-eqb, lt-ltb, le-ltb, false≢true}
 use Rattle.std.proofs.lemmas.List.{length-take-le, length-drop, length-append, get_or-drop, get_or-take, get_or_append_left, take-append-drop, take-take, append_assoc, append-nil}
 use Rattle.std.proofs.lemmas.List.Elements.{Contains-get_or, All-push, All-contains}
-use Rattle.object_header.specs.Fields.{Fields, fields_of}
+use Rattle.object_header.specs.Fields.{Fields, fields_of, free_fields}
 use Rattle.object_header.specs.Head.{count_of, overflow_slots_of, class_of}
 use Rattle.object_header.specs.Chunks.{Chunk, leads, slots_told, chunk_of, Cuts, chunks}
 use Rattle.spur_graph.specs.Cells.{Cell, Empty, Moved, There, Store, cell_in, is_moved, is_start, target_of}
@@ -17,7 +17,7 @@ use Rattle.heap_cells.proofs.Members.{in_list}
 use Rattle.heap_cells.proofs.Cutting.{stands, all-in_order}
 use Rattle.heap_cells.proofs.Writing.{chunk_by}
 use Rattle.heap_cells.proofs.Appending.{shifted_start, shifted_size, appended}
-use Rattle.image_settle.specs.Rooms.{IsRoom, IsAlone, HasRoom, room_chunk, room_chunks, free_fields}
+use Rattle.image_settle.specs.Rooms.{IsRoom, IsAlone, HasRoom, room_chunk, room_chunks}
 
 -- ---- head words
 

@@ -13,7 +13,7 @@ use Rattle.heap_cells.proofs.ObjectWrites.{to_object}
 use Rattle.image_settle.specs.Settles.{IsLoose, IsNext, slot_in}
 
 module _ (h : Store) (words : List ℕ) (header start slots : ℕ) (n : IsNext h words header start slots) (not_free : class_of header ≢ 0) (not_moved : class_of header ≢ 8) where
-  abbrev the_body : Body
+  abbrev pub the_body : Body
   the_body = body_from (fields_of header) (take slots (drop (start + 1) words))
 
   pub stands : h.cell start ≡ There the_body
@@ -25,19 +25,19 @@ module _ (h : Store) (words : List ℕ) (header start slots : ℕ) (n : IsNext h
   pub loose : (j : ℕ) → start < j → j < start + 1 + slots → IsLoose h j
   loose = n.loose there
 
-  body : body_at h start ≡ the_body
+  pub body : body_at h start ≡ the_body
   body = ap body_of stands
 
   formed : is_formed the_body ≡ true
   formed = ap is_formed (sym body) ∙ n.formed there
 
-  long : length the_body.words ≡ slots
+  pub long : length the_body.words ≡ slots
   long = omega (arith, length-take slots (drop (start + 1) words), length-drop (start + 1) words, n.fits)
 
   first_slot : 0 < slots → get_or the_body.words 0 0 ≡ get_or words (start + 1) 0
   first_slot l = get_or-take slots (drop (start + 1) words) 0 0 l ∙ get_or-drop (start + 1) words 0 0 ∙ ap (λ k. get_or words k 0) (omega arith)
 
-  count : pointer_slots_of (format_of header) slots (literals_of (get_or words (start + 1) 0)) ≡ pointer_count the_body
+  pub count : pointer_slots_of (format_of header) slots (literals_of (get_or words (start + 1) 0)) ≡ pointer_count the_body
   unfolding pointer_count
   count =
       pointers-same (format_of header) slots (literals_of (get_or words (start + 1) 0)) (literals_of (get_or the_body.words 0 0))

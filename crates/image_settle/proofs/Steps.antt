@@ -81,6 +81,21 @@ module _ (old : List ℕ) (cs : List Chunk) (new next : List ℕ) (at start slot
         behind = λ m. k.behind j (omega (arith, m, s.start_is, s.slots_is)) ∙ w.same j a;
       }))
 
+  -- a chunk that is no forwarder, and was settled
+  pub others_step : (h : Store) → Walking (λ c j w. class_of (get_or old c.start 0) ≢ 8) old new cs at → at < length old → Spans new at start slots end → Settles h new next start slots
+      → class_of (get_or new start 0) ≢ 8 → Walking (λ c j w. class_of (get_or old c.start 0) ≢ 8) old next cs end
+  others_step h w l spans k other =
+      let s = spans_old spans (w.same at (omega arith)) in
+      let lies = chunk_of-lies at (get_or old at 0) in
+      let place = chunk_of-at at (get_or old at 0) in
+      let low : at ≤ start = omega (arith, s.start_is, lies.lead, place) in
+      let room : start + 1 + slots ≤ end = omega (arith, s.start_is, s.slots_is, s.end_is, lies.slots, place) in
+      let class : class_of (get_or new start 0) ≡ class_of (get_or old (chunk_of at (get_or old at 0)).start 0) = ap class_of (w.same start low) ∙ ap (λ n. class_of (get_or old n 0)) s.start_is in
+      subst (Walking (λ d j v. class_of (get_or old d.start 0) ≢ 8) old next cs) (sym s.end_is) (walk_goes (λ d j v. class_of (get_or old d.start 0) ≢ 8) old cs new next at w l k.same_len
+      (λ j a. k.before j (omega (arith, low)))
+      (λ j a. k.behind j (omega (arith, room, s.end_is)))
+      (λ j a b e. other (class ∙ e)))
+
   pub turns_step : (segs : List Segment) → Walking (λ c j w. IsTurned segs old c j w) old new cs at → at < length old → Spans new at start slots end → Turns segs new next start
       → Walking (λ c j w. IsTurned segs old c j w) old next cs end
   turns_step segs w l spans k =

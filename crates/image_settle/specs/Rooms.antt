@@ -1,20 +1,12 @@
 -- The room behind the settled words, which is one free chunk.
 use Rattle.std.specs.Prelude.{ℕ, ◌≡◌, ◌+◌, ◌-◌, List, [], ◌∷◌, ◌++◌, length, slice_index, true, if◌then◌else◌, nat_eq, nat_lt}
 use Rattle.std.specs.List.{All}
-use Rattle.object_header.specs.Fields.{Fields, fields_of}
+use Rattle.object_header.specs.Fields.{fields_of}
 use Rattle.object_header.specs.declared.header.TheConstants.{FREE_CLASS}
 use Rattle.object_header.specs.Chunks.{Chunk, leads, chunk_of, Cuts, chunks}
 use Rattle.spur_graph.specs.Cells.{Moved, Store, is_there}
 use Rattle.spur_graph.specs.Heaps.{row_store, IsClear}
 use Rattle.heap_cells.specs.Settled.{IsNamed, IsSettled}
-
--- the format of a free chunk: words
-abbrev pub word_format : ℕ
-word_format = 9
-
--- the fields of a free chunk's header
-abbrev pub free_fields : ℕ → Fields
-free_fields count = record { count = count; marked = 0; hash = 0; grey = 0; pinned = 0; remembered = 0; format = word_format; readonly = 0; class = FREE_CLASS }
 
 -- a free chunk of so many words; from 256 up it has an overflow word
 abbrev pub room_chunk : ℕ → ℕ → Chunk

@@ -1,5 +1,6 @@
 -- What settling starts from, and what its two walks make of each word.
 use Rattle.std.specs.Prelude.{ℕ, ◌≡◌, ◌≢◌, ◌+◌, ◌-◌, ◌^◌, ◌<◌, ◌≤◌, List, take, drop, length, slice_index, true, if◌then◌else◌, nat_eq, nat_lt, Some}
+use Rattle.std.specs.List.{Contains}
 use Rattle.object_header.specs.Fields.{Fields, fields_of}
 use Rattle.object_header.specs.Head.{class_of}
 use Rattle.object_header.specs.declared.header.TheConstants.{FORWARDER_CLASS}
@@ -11,7 +12,7 @@ use Rattle.spur_graph.specs.Cells.{Body, Cell, Empty, Moved, There, Store, cell_
 use Rattle.spur_graph.specs.Ordinary.{body_at, is_ordinary}
 use Rattle.spur_graph.specs.Heaps.{HasNoUnusedBits}
 use Rattle.image_references.specs.References.{Leads}
-use Rattle.heap_cells.specs.Settled.{IsLoadable, IsNamed, word_of, settled_word, settled_root}
+use Rattle.heap_cells.specs.Settled.{IsNamed, word_of, settled_word, settled_root}
 use Rattle.spur_graph.specs.FileStores.{file_store}
 
 -- the starts of the first five chunks
@@ -19,11 +20,12 @@ pub record AreFirsts (h : Store) (firsts : List ℕ) : Type 0 where
   pub five : 5 ≤ length firsts
   pub are : (k : ℕ) → k < 5 → slice_index firsts k ≡ first h k
 
--- what the checks of an image leave: it can be loaded, the maps have the starts of its objects and forwarders, and those of its ordinary objects,
--- and each forwarder names the object to which it leads
+-- what the checks of an image's chunks, forwarders and class table leave: its objects are formed, the maps have the starts of its objects and
+-- forwarders, and those of its ordinary objects, and each forwarder names the object to which it leads
 pub record IsReady (segs : List Segment) (start_map ordinary_map : StartMap) (firsts words : List ℕ) : Type 0 where
   pub cut : Cuts words 0 (length words) (chunks words)
-  pub loadable : IsLoadable (file_store segs words)
+  pub formed : (s : ℕ) → is_there ((file_store segs words).cell s) ≡ true → is_formed (body_at (file_store segs words) s) ≡ true
+  pub nil : is_there ((file_store segs words).cell (first (file_store segs words) 0)) ≡ true
   pub named : IsNamed (file_store segs words)
   pub resolved : (s t : ℕ) → (file_store segs words).cell s ≡ Moved t → is_there ((file_store segs words).cell t) ≡ true
   pub starts : (s : ℕ) → has_start start_map s ≡ is_start ((file_store segs words).cell s)
@@ -84,3 +86,7 @@ pub record IsTurned (segs : List Segment) (old : List ℕ) (c : Chunk) (j new : 
   pub target : class_of (slice_index old c.start) ≡ FORWARDER_CLASS → j ≡ c.start + 1 → new ≡ word_of (start_named (word_in segs 0) old (slice_index old j))
   pub kept : class_of (slice_index old c.start) ≢ FORWARDER_CLASS → new ≡ slice_index old j
   pub others : j ≢ c.start + 1 → new ≡ slice_index old j
+
+-- none of these chunks is a forwarder
+abbrev pub HaveNoForwarder : List ℕ → List Chunk → Type 0
+HaveNoForwarder words cs = (c : Chunk) → Contains cs c → class_of (slice_index words c.start) ≢ FORWARDER_CLASS

@@ -1,18 +1,25 @@
 // The words of one chunk.
-ghost use Rattle.std.specs.Prelude.{◌≡◌, ◌≢◌, ◌≤◌, ◌<◌, ◌+◌, ◌-◌, ◌^◌, ◌*◌, ℕ, length, slice_index, Some};
+ghost use Rattle.std.specs.Prelude.{◌≡◌, ◌≢◌, ◌≤◌, ◌<◌, ◌+◌, ◌-◌, ◌^◌, ◌*◌, ◌&&◌, ℕ, length, slice_index, true, false, not, nat_eq, Some, OnOk};
 ghost use Rattle.spur_graph.specs.Segments.{word_in};
 ghost use Rattle.object_header.specs.Fields.{fields_of};
+ghost use Rattle.object_header.specs.Head.{format_of};
+ghost use Rattle.heap_walk.specs.Starts.{has_start, covered};
+ghost use Rattle.spur_graph.specs.ImageCauses.{FindsLeast};
+ghost use Rattle.spur_graph.specs.Ordinary.{is_ordinary, is_good_word};
 ghost use Rattle.spur_graph.specs.Cells.{Store, first};
 ghost use Rattle.spur_graph.specs.Heaps.{HasNoUnusedBits};
 ghost use Rattle.heap_cells.specs.Settled.{settled_word, settled_root};
-ghost use Rattle.image_references.specs.References.{HasOrdinary};
+ghost use Rattle.image_references.specs.References.{HasOrdinary, IsBadPointerOf};
 ghost use Rattle.image_settle.specs.Settles.{Follows, AreFirsts, IsLoose, IsNext, unmarked, slot_in};
 
-use crate::word::{settled_root, settled_word};
+use crate::word::{settled_root, settled_word, value_word};
 use heap_segments::AddressMap;
 use heap_walk::{Span, StartMap};
 use object_header::{FORWARDER_CLASS, FREE_CLASS, Header};
 use spur_graph::{FREE_LISTS, HIDDEN_ROOTS};
+
+/// Format of a context, whose slots are read otherwise.
+const CONTEXT_FORMAT: u64 = 3;
 
 /// The header without what collections leave in one: mark, grey and remembered bit, and the two bits of no field.
 pub(crate) fn cleared(header: Header) -> Header
@@ -28,7 +35,39 @@ pub(crate) fn cleared(header: Header) -> Header
         .set_class(header.class())
 }
 
-/// Follows the words from `from` up to `to`.
+/// Follows the words from `from` up to `to`. The error is the index of the first of them that is no value.
+fn settle_values(
+    words: &mut [u64],
+    map: &AddressMap,
+    starts: &StartMap,
+    ordinary: &StartMap,
+    from: usize,
+    to: usize,
+) -> Result<(), usize>
+    ghost h: { Store }
+    requires leads { Follows h map.now starts.now words.old }
+    requires ordinary { HasOrdinary h ordinary.now }
+    requires order { from ≤ to }
+    requires within { to ≤ length words.old }
+    requires loose { (j : ℕ) → from ≤ j → j < to → IsLoose h j }
+    ensures least { FindsLeast (λ j. (from ≤ j) × (j < to) × (is_good_word h (slice_index words.old j) ≡ false)) result }
+    ensures same_len { length words.new ≡ length words.old }
+    ensures leads { Follows h map.now starts.now words.new }
+    ensures followed { OnOk result ((j : ℕ) → from ≤ j → j < to → slice_index words.new j ≡ settled_word h (slice_index words.old j)) }
+    ensures before { (j : ℕ) → j < from → slice_index words.new j ≡ slice_index words.old j }
+    ensures behind { (j : ℕ) → to ≤ j → slice_index words.new j ≡ slice_index words.old j }
+{
+    'values: for j in from..to {
+        let word = words[j];
+        match value_word(words, map, starts, ordinary, word) {
+            Some(value) => words[j] = value,
+            None => return Err(j),
+        }
+    }
+    Ok(())
+}
+
+/// Follows the words from `from` up to `to`. One that is no value becomes `nil`.
 fn settle_slots(
     words: &mut [u64],
     map: &AddressMap,
@@ -76,9 +115,38 @@ fn settle_roots(words: &mut [u64], map: &AddressMap, nil: usize, from: usize, to
     }
 }
 
-/// Settles the slots of a chunk with this header. Those of free chunks and forwarders stay, and those of the free lists object, which has words that
-/// are no values.
-fn settle_body(
+/// Settles the slots of an ordinary object with this header, which is no context. The error is the index of the first pointer slot's word that has no
+/// value.
+fn settle_object(
+    words: &mut [u64],
+    map: &AddressMap,
+    starts: &StartMap,
+    ordinary: &StartMap,
+    header: Header,
+    span: Span,
+) -> Result<(), usize>
+    ghost h: { Store }
+    requires leads { Follows h map.now starts.now words.old }
+    requires ordinary { HasOrdinary h ordinary.now }
+    requires next { IsNext h words.old header.0 span.start span.slots }
+    requires there { is_ordinary h span.start ≡ true }
+    requires format { format_of header.0 ≢ 3 }
+    ensures least { FindsLeast (IsBadPointerOf h span.start) result }
+    ensures same_len { length words.new ≡ length words.old }
+    ensures leads { Follows h map.now starts.now words.new }
+    ensures slots { OnOk result ((j : ℕ) → span.start < j → j < span.start + 1 + span.slots
+        → slice_index words.new j ≡ slot_in h span.start (h.cell span.start) (j - span.start - 1) (slice_index words.old j)) }
+    ensures before { (j : ℕ) → j ≤ span.start → slice_index words.new j ≡ slice_index words.old j }
+    ensures behind { (j : ℕ) → span.start + 1 + span.slots ≤ j → slice_index words.new j ≡ slice_index words.old j }
+{
+    let from = span.start + 1;
+    let to = from + header.pointer_slots(span.slots, words[from]);
+    settle_values(words, map, starts, ordinary, from, to)
+}
+
+/// Settles the slots of a chunk with this header, whatever it is. Those of free chunks and forwarders stay, and those of the free lists object, which
+/// has words that are no values; in every other pointer slot a word that is no value becomes `nil`.
+fn settle_any(
     words: &mut [u64],
     map: &AddressMap,
     starts: &StartMap,
@@ -113,7 +181,45 @@ fn settle_body(
     }
 }
 
-/// Clears the header of a chunk and settles its slots.
+/// Whether what starts there is an ordinary object and no context, so that its pointer slots are to have values.
+fn wants_values(ordinary: &StartMap, start: usize, header: Header) -> bool
+    requires { start < covered ordinary.now }
+    ensures { result ≡ (has_start ordinary.now start && not (nat_eq (format_of header.0) 3)) }
+{
+    ordinary.has(start) && header.format() != CONTEXT_FORMAT
+}
+
+/// Settles the slots of a chunk with this header. The error is the index of the first one's word that has no value and is to have one.
+fn settle_body(
+    words: &mut [u64],
+    map: &AddressMap,
+    starts: &StartMap,
+    ordinary: &StartMap,
+    firsts: &[usize],
+    header: Header,
+    span: Span,
+) -> Result<(), usize>
+    ghost h: { Store }
+    requires leads { Follows h map.now starts.now words.old }
+    requires ordinary { HasOrdinary h ordinary.now }
+    requires firsts { AreFirsts h firsts.now }
+    requires next { IsNext h words.old header.0 span.start span.slots }
+    ensures least { FindsLeast (IsBadPointerOf h span.start) result }
+    ensures same_len { length words.new ≡ length words.old }
+    ensures leads { Follows h map.now starts.now words.new }
+    ensures slots { OnOk result ((j : ℕ) → span.start < j → j < span.start + 1 + span.slots
+        → slice_index words.new j ≡ slot_in h span.start (h.cell span.start) (j - span.start - 1) (slice_index words.old j)) }
+    ensures before { (j : ℕ) → j ≤ span.start → slice_index words.new j ≡ slice_index words.old j }
+    ensures behind { (j : ℕ) → span.start + 1 + span.slots ≤ j → slice_index words.new j ≡ slice_index words.old j }
+{
+    if wants_values(ordinary, span.start, header) {
+        return settle_object(words, map, starts, ordinary, header, span);
+    }
+    settle_any(words, map, starts, ordinary, firsts, header, span);
+    Ok(())
+}
+
+/// Clears the header of a chunk and settles its slots. The error is the index of the first one's word that has no value and is to have one.
 pub(crate) fn settle_chunk(
     words: &mut [u64],
     map: &AddressMap,
@@ -121,22 +227,23 @@ pub(crate) fn settle_chunk(
     ordinary: &StartMap,
     firsts: &[usize],
     span: Span,
-)
+) -> Result<(), usize>
     ghost h: { Store }
     requires leads { Follows h map.now starts.now words.old }
     requires ordinary { HasOrdinary h ordinary.now }
     requires firsts { AreFirsts h firsts.now }
     requires next { IsNext h words.old (slice_index words.old span.start) span.start span.slots }
+    ensures least { FindsLeast (IsBadPointerOf h span.start) result }
     ensures same_len { length words.new ≡ length words.old }
     ensures leads { Follows h map.now starts.now words.new }
     ensures header { fields_of (slice_index words.new span.start) ≡ unmarked (fields_of (slice_index words.old span.start)) }
     ensures unused { HasNoUnusedBits (slice_index words.new span.start) }
-    ensures slots { (j : ℕ) → span.start < j → j < span.start + 1 + span.slots
-        → slice_index words.new j ≡ slot_in h span.start (h.cell span.start) (j - span.start - 1) (slice_index words.old j) }
+    ensures slots { OnOk result ((j : ℕ) → span.start < j → j < span.start + 1 + span.slots
+        → slice_index words.new j ≡ slot_in h span.start (h.cell span.start) (j - span.start - 1) (slice_index words.old j)) }
     ensures before { (j : ℕ) → j < span.start → slice_index words.new j ≡ slice_index words.old j }
     ensures behind { (j : ℕ) → span.start + 1 + span.slots ≤ j → slice_index words.new j ≡ slice_index words.old j }
 {
     let header = Header(words[span.start]);
     words[span.start] = cleared(header).0;
-    settle_body(words, map, starts, ordinary, firsts, header, span);
+    settle_body(words, map, starts, ordinary, firsts, header, span)
 }

@@ -1,7 +1,8 @@
 // Words of slots, followed to the starts of a heap.
-ghost use Rattle.std.specs.Prelude.{◌≡◌, ◌≤◌, ◌<◌, ◌^◌, ℕ, Some};
+ghost use Rattle.std.specs.Prelude.{◌≡◌, ◌≤◌, ◌<◌, ◌^◌, ℕ, if◌then◌else◌, Some, None};
 ghost use Rattle.spur_graph.specs.Segments.{word_in};
 ghost use Rattle.spur_graph.specs.Cells.{Store, first};
+ghost use Rattle.spur_graph.specs.Ordinary.{is_good_word};
 ghost use Rattle.heap_cells.specs.Settled.{settled_word, settled_root, word_of};
 ghost use Rattle.image_references.specs.References.{HasOrdinary};
 ghost use Rattle.image_settle.specs.Settles.{Follows};
@@ -20,8 +21,30 @@ pub(crate) fn word_of(start: usize) -> u64
     8 * start as u64
 }
 
-/// The word of a slot in a heap, by its word in the file: an immediate as it is, a reference to where it leads, and `nil` for
-/// whatever is no value. `words` may be settled already, but for headers and the words of forwarders.
+/// The word of a slot in a heap, by its word in the file: an immediate as it is, and a reference to where it leads; none for whatever is no value.
+/// `words` may be settled already, but for headers and the words of forwarders.
+pub(crate) fn value_word(
+    words: &[u64],
+    map: &AddressMap,
+    starts: &StartMap,
+    ordinary: &StartMap,
+    word: u64,
+) -> Option<u64>
+    ghost h: { Store }
+    requires leads { Follows h map.now starts.now words.now }
+    requires ordinary { HasOrdinary h ordinary.now }
+    ensures { result ≡ (if is_good_word h word then Some (settled_word h word) else None) }
+{
+    if is_immediate_word(word) {
+        return Some(word);
+    }
+    match ordinary_start(words, map, starts, ordinary, word) {
+        Some(start) => Some(word_of(start)),
+        None => None,
+    }
+}
+
+/// The same, and `nil` for whatever is no value.
 pub fn settled_word(
     words: &[u64],
     map: &AddressMap,
@@ -36,11 +59,8 @@ pub fn settled_word(
     requires nil { nil ≡ first h 0 }
     ensures { result ≡ settled_word h word }
 {
-    if is_immediate_word(word) {
-        return word;
-    }
-    match ordinary_start(words, map, starts, ordinary, word) {
-        Some(start) => word_of(start),
+    match value_word(words, map, starts, ordinary, word) {
+        Some(value) => value,
         None => word_of(nil),
     }
 }

@@ -6,13 +6,12 @@ ghost use Rattle.spur_graph.specs.Value.{IsValue, int_of, value_of, is_immediate
 ghost use Rattle.immediates.specs.Kinds.{kind_of, value_by};
 
 use crate::{Kind, Range};
+use object_header::SMALL_INTEGER_TAG;
 
 /// How many tags there are: a word is its tag, and this many times what stands above it.
 const TAGS: u64 = 8;
 
 const REFERENCE_TAG: u64 = 0;
-
-const SMALL_INTEGER_TAG: u64 = 1;
 
 const CHARACTER_TAG: u64 = 2;
 

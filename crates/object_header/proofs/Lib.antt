@@ -1,3 +1,4 @@
 pub mod Chunks
 pub mod Fields
 pub mod Heads
+pub mod HeadWords

@@ -1,5 +1,7 @@
 use Rattle.std.specs.Prelude.{ℕ}
 use Rattle.object_header.specs.Field.{field_of}
+use Rattle.object_header.specs.declared.format.TheConstants.{SIXTY_FOUR_BIT_INDEXABLE_FORMAT}
+use Rattle.object_header.specs.declared.header.TheConstants.{FREE_CLASS}
 
 -- what a header word says, field by field; all but the two bits that are not used
 pub record Fields : Type 0 where
@@ -25,4 +27,18 @@ fields_of word = record {
   format = field_of 24 5 word;
   readonly = field_of 23 1 word;
   class = field_of 0 22 word;
+}
+
+-- the fields of a free chunk's header
+abbrev pub free_fields : ℕ → Fields
+free_fields count = record {
+  count = count;
+  marked = 0;
+  hash = 0;
+  grey = 0;
+  pinned = 0;
+  remembered = 0;
+  format = SIXTY_FOUR_BIT_INDEXABLE_FORMAT;
+  readonly = 0;
+  class = FREE_CLASS;
 }

@@ -6,6 +6,16 @@ use std::marker::Model;
 /// The format of an object whose slots are all indexable pointers, as those of an array.
 pub const ARRAY_FORMAT: u64 = 2;
 
+/// The format of an object that has named slots and indexable pointers behind them, as a context.
+pub const INDEXABLE_POINTERS_FORMAT: u64 = 3;
+
+/// The format of an object of 64-bit units, the first that has units and no pointers.
+pub const SIXTY_FOUR_BIT_INDEXABLE_FORMAT: u64 = 9;
+
+/// The first format of compiled methods, which have pointers and units: the literals, and the bytes
+/// behind them.
+pub const FIRST_COMPILED_METHOD_FORMAT: u64 = 24;
+
 /// The format of an object, 0 to 31: which of its slots are pointers, and the size of the units in
 /// the others. From 10 up it also counts the units of the last word that are not used, since the
 /// slot count is in whole words.
@@ -98,7 +108,7 @@ impl Format {
     pub fn is_method(self) -> bool
         ensures { result ≡ is_method self }
     {
-        self.0 > 23
+        self.0 as u64 >= FIRST_COMPILED_METHOD_FORMAT
     }
 
     /// The bytes of a unit, 0 where the format has no units.

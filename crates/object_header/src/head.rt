@@ -15,7 +15,8 @@ type TagField = Field<0, 3>;
 /// The number of literals in the SmallInteger of a method's slot 0.
 pub type LiteralsField = Field<3, 15>;
 
-const SMALL_INTEGER_TAG: u64 = 1;
+/// The tag of a SmallInteger.
+pub const SMALL_INTEGER_TAG: u64 = 1;
 
 impl Header {
     /// How many of the slots behind the header are pointers; they come first. `first` is the word behind the header, which in a

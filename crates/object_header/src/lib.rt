@@ -25,6 +25,7 @@
 mod field;
 mod format;
 mod head;
+mod head_words;
 mod header;
 #[cfg(test)]
 mod tests;
@@ -33,6 +34,10 @@ pub use field::{
     ClassField, CountField, Field, FormatField, GreyField, HashField, MarkedField, PinnedField,
     ReadOnlyField, RememberedField,
 };
-pub use format::{ARRAY_FORMAT, Format};
-pub use head::{Head, HeadError, LiteralsField, OverflowSlotsField, read_head};
+pub use format::{
+    ARRAY_FORMAT, FIRST_COMPILED_METHOD_FORMAT, Format, INDEXABLE_POINTERS_FORMAT,
+    SIXTY_FOUR_BIT_INDEXABLE_FORMAT,
+};
+pub use head::{Head, HeadError, LiteralsField, OverflowSlotsField, SMALL_INTEGER_TAG, read_head};
+pub use head_words::{LONGEST_SHORT, free_header, overflow_word};
 pub use header::{BRIDGE_CLASS, FORWARDER_CLASS, FREE_CLASS, Header, OVERFLOW_COUNT};

@@ -1,4 +1,4 @@
-use crate::{Format, Head, HeadError, Header, read_head};
+use crate::{Format, Head, HeadError, Header, free_header, overflow_word, read_head};
 
 // The headers of the base image's array class and of its special objects array, which has ten
 // slots.
@@ -244,4 +244,10 @@ fn methods_hold_the_literals_that_they_count(rt: HostRuntime) {
             None => assert_eq!(rt; read, Err(HeadError::BadCount)),
         }
     }
+}
+
+#[test]
+fn free_chunks_have_head_words(rt: HostRuntime) {
+    assert_eq!(rt; free_header(3).0, 0x0300_0000_0900_0000);
+    assert_eq!(rt; overflow_word(300), 0xff00_0000_0000_012c);
 }

@@ -13,9 +13,9 @@ use Rattle.spur_graph.specs.ImageCauses.{Cause, Short, Format, HeaderSize, Base,
 use Rattle.spur_graph.specs.ImageFile.{header_bytes}
 use Rattle.spur_graph.specs.LoadedGraph.{loaded_graph, loaded_room}
 use Rattle.spur_graph.specs.Heaps.{View, Stands, Whole}
-use Rattle.image_load.specs.declared.error.LoadError.{LoadError}
-use Rattle.image_load.specs.declared.error.LoadError.TheVariants as errors
-use Rattle.image_load.specs.Loaded.{IsCauseOf}
+use Rattle.image_file.specs.declared.error.LoadError.{LoadError}
+use Rattle.image_file.specs.declared.error.LoadError.TheVariants as errors
+use Rattle.image_file.specs.Errors.{IsCauseOf}
 use Rattle.replay.specs.declared.runs.Stop.{Stop}
 use Rattle.replay.specs.declared.runs.Stop.TheVariants as stop
 use Rattle.replay.specs.declared.runs.Status.{Status}

@@ -1,15 +1,16 @@
 -- The lines of a text that comes in parts.
-use Rattle.std.proofs.Common.{◌≡◌, ◌≢◌, ◌<◌, ◌≤◌, ◌+◌, ℕ, zero, suc, List, [], ◌∷◌, ◌++◌, length, take, drop, get_or, refl, sym, ap, ◌∙◌, append_assoc, append-nil, Bool, true, false, cond, not, true≢false, nat_lt, Some, None, Result, Ok, Err, arith, min, length-drop, length-take}
+use Rattle.std.proofs.Common.{◌≡◌, ◌≢◌, ◌<◌, ◌≤◌, ◌+◌, ℕ, zero, suc, List, [], ◌∷◌, ◌++◌, length, take, drop, get_or, refl, sym, ap, ◌∙◌, append_assoc, append-nil, Bool, true, false, cond, not, true≢false, nat_lt, Some, None, Option, Result, Ok, Err, inl, inr, arith, min, length-drop, length-take}
 use mathlib.Core.Bool.{or-true}
 use Rattle.std.specs.Result.{IsOk, OnOk}
 use Rattle.std.specs.List.{position, position_or_len}
-use Rattle.std.proofs.lemmas.Bool.{ltb-false, eqb-true, false≢true}
+use Rattle.std.proofs.lemmas.Bool.{cases_lt, ltb-false, eqb-true, false≢true}
 use Rattle.std.proofs.lemmas.List.{take_min, take-append-drop, get_or-drop}
 use Rattle.std.proofs.lemmas.List.Folds.{list_any-append}
 use Rattle.std.proofs.lemmas.List.Sums.{prefix_len-le-length}
 use Rattle.std.proofs.lemmas.List.Quantifiers.{position-Some}
 use Rattle.std.proofs.Math.Seq.{take-append-add, drop-cons}
 use Rattle.std.specs.Prelude.{◌==◌}
+use Rattle.memchr.specs.Find.{IsFirstByte, is_byte}
 use Rattle.spur_graph.specs.Bytes.{Text}
 use Rattle.spur_graph.specs.Words.{onto_first}
 use Rattle.spur_graph.specs.Lines.{lines_of, ended_lines_of, open_line_of, onto_ended, has_line_feed}
@@ -224,6 +225,33 @@ none_found t is =
     let test = none_where (nat_lt (position_or_len (λ b. b == 10) t) (length t)) (position_or_len (λ b. b == 10) t) is in
     let most = prefix_len-le-length (λ b. not (b == 10)) t in
     none_at t (omega (arith, most, ltb-false (position_or_len (λ b. b == 10) t) (length t) test))
+
+within_by : (v : Bool) (n len : ℕ) → n < len → cond (not v) (1 + n) 0 < suc len
+within_by true n len lt = omega arith
+within_by false n len lt = omega arith
+
+found_within : (t : Text) (k : ℕ) → k < length t → (get_or t k 0 == 10) ≡ true → position_or_len (λ b. b == 10) t < length t
+found_within [] k lt is = absurd (omega arith)
+found_within (b ∷ t) zero lt is = rw is (omega arith)
+found_within (b ∷ t) (suc k) lt is = within_by (b == 10) (position_or_len (λ c. c == 10) t) (length t) (found_within t k (omega arith) is)
+
+-- the place that a search for the first line feed finds
+pub feed_is : (t : Text) (r : Option ℕ) → IsFirstByte (is_byte 10) t r → r ≡ position (λ b. b == 10) t
+feed_is t None none = elim (position (λ b. b == 10) t) as (λ o. position (λ b. b == 10) t ≡ o → None ≡ o) [
+  | None ↦ λ e. refl
+  | Some i ↦ λ e. let found = position-Some (λ b. b == 10) t i 0 e in absurd (none i (omega arith) found.0 found.1)
+] refl
+feed_is t (Some k) first = elim (position (λ b. b == 10) t) as (λ o. position (λ b. b == 10) t ≡ o → Some k ≡ o) [
+  | None ↦ λ e.
+      let test = none_where (nat_lt (position_or_len (λ b. b == 10) t) (length t)) (position_or_len (λ b. b == 10) t) e in
+      absurd (omega (arith, ltb-false (position_or_len (λ b. b == 10) t) (length t) test, found_within t k first.0.high first.1))
+  | Some i ↦ λ e.
+      let found = position-Some (λ b. b == 10) t i 0 e in
+      elim (cases_lt i k) [
+        | inl lt ↦ absurd (first.0.before i (omega arith) lt found.1)
+        | inr ge ↦ elim (cases_lt k i) [ inl lt ↦ absurd (false≢true (sym (found.2 k lt) ∙ first.1)) | inr le ↦ ap Some (omega (arith, ge, le)) ]
+      ]
+] refl
 
 -- as much as there is room for
 pub filled : (kept bytes : List ℕ) (most room : ℕ) → length kept + room ≡ most → kept ++ take (min room (length bytes)) bytes ≡ take most (kept ++ bytes)

@@ -8,8 +8,8 @@ use Rattle.spur_io.specs.Store.{Puts}
 use Rattle.spur_io.specs.Causes.{SinkCause}
 use Rattle.spur_graph.specs.Bytes.{Text}
 use Rattle.spur_graph.specs.ImageCauses.{Cause, cause_line, Short, Format, HeaderSize, Base, Large, Segment, End, Object, Roots, Forwarder, Class, Slot, Special}
-use Rattle.image_load.specs.declared.error.LoadError.{LoadError}
-use Rattle.image_load.specs.declared.error.LoadError.TheVariants as errors
+use Rattle.image_file.specs.declared.error.LoadError.{LoadError}
+use Rattle.image_file.specs.declared.error.LoadError.TheVariants as errors
 use Rattle.replay.specs.declared.runs.Stop.{Stop}
 use Rattle.replay.specs.declared.runs.Stop.TheVariants as stop
 use Rattle.replay.specs.declared.runs.Status.{Status}

@@ -16,6 +16,5 @@ mod session;
 #[cfg(test)]
 mod tests;
 
-pub use lines::lines_are_ended_or_open;
 pub use runs::{Status, run};
 pub use session::{LineFault, Session};

@@ -1,9 +1,9 @@
 // The lines of a script that is read in pieces.
-ghost use Rattle.std.specs.Prelude.{◌≡◌, ◌≢◌, ◌==◌, [], ◌∷◌, ◌++◌, length, position, take, false, IfSome, IfNone};
-ghost use Rattle.spur_graph.specs.Bytes.{Text};
-ghost use Rattle.spur_graph.specs.Lines.{lines_of, ended_lines_of, open_line_of, has_line_feed};
+ghost use Rattle.std.specs.Prelude.{◌≡◌, ◌==◌, [], ◌∷◌, ◌++◌, length, position, take, false, IfSome, IfNone};
+ghost use Rattle.spur_graph.specs.Lines.{has_line_feed};
 
 use arrayvec::ArrayVec;
+use memchr::memchr;
 use std::marker::Model;
 
 /// Bytes that are kept of a line: one more than the longest line has, so that what is kept of a longer one is too long as well.
@@ -13,7 +13,7 @@ const KEPT_BYTES: usize = 1_025;
 fn line_feed_of(bytes: &[u8]) -> Option<usize>
     ensures { result ≡ position (λ b. b == 10) bytes.now }
 {
-    bytes.iter().position(|byte| *byte == b'\n')
+    memchr(b'\n', bytes)
 }
 
 /// The first line without its line feed, and what follows it; none where no line is ended.
@@ -78,10 +78,3 @@ impl OpenLine {
         self.kept.clear();
     }
 }
-
-/// The lines of a text are those that are ended, and the open line behind them where it has bytes.
-#[tactic(auto, using(crate::proofs::ScriptLines::all_ended, crate::proofs::ScriptLines::one_open))]
-pub fn lines_are_ended_or_open()
-    ensures all_ended { (text : Text) → open_line_of text ≡ [] → lines_of text ≡ ended_lines_of text }
-    ensures one_open { (text : Text) → open_line_of text ≢ [] → lines_of text ≡ ended_lines_of text ++ open_line_of text ∷ [] }
-{}

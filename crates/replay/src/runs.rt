@@ -25,6 +25,9 @@ use std::alloc::Global;
 /// The most bytes that a script may have.
 const MOST_SCRIPT_BYTES: u64 = 1 << 32;
 
+/// The line of an answer. There is one for all lines of a script, since a new one for each would cost about as much as a short line.
+type AnswerText = ArrayVec<u8, 256>;
+
 /// Bytes of the script that are read at once.
 const PIECE_BYTES: usize = 4_096;
 
@@ -119,15 +122,20 @@ impl From<Stop> for Status {
     }
 }
 
-/// Answers a line, and puts the answer.
-fn answer_line<K: Sink>(session: &mut Session, line: &[u8], out: &mut K) -> Result<(), SinkFault>
+/// Answers a line, writes the answer in place of what the text has, and puts it.
+fn answer_line<K: Sink>(
+    session: &mut Session,
+    line: &[u8],
+    text: &mut AnswerText,
+    out: &mut K,
+) -> Result<(), SinkFault>
     ensures answer { (files : Files) → AnswersBytes session.old files session.new files line.now (K.so_far out.old) (K.so_far out.new) result }
     ensures cause { SinkCause (K.fault_count out.old) (K.fault_count out.new) result }
     ensures run { SameRun session.old session.new }
 {
     let answer = session.answer(line);
-    let mut text = ArrayVec::new();
-    write_answer(&answer, &mut text);
+    text.clear();
+    write_answer(&answer, text);
     out.put(text.as_slice())
 }
 
@@ -136,6 +144,7 @@ fn answer_ended<K: Sink>(
     session: &mut Session,
     open_line: &mut OpenLine,
     line: &[u8],
+    text: &mut AnswerText,
     out: &mut K,
 ) -> Result<(), SinkFault>
     ensures answer { (files : Files) → AnswersBehind session.old files session.new files open_line.old line.now (K.so_far out.old) (K.so_far out.new) result }
@@ -144,10 +153,10 @@ fn answer_ended<K: Sink>(
     ensures run { SameRun session.old session.new }
 {
     if open_line.is_empty() {
-        return answer_line(session, line, out);
+        return answer_line(session, line, text, out);
     }
     open_line.extend(line);
-    let answered = answer_line(session, open_line.bytes(), out);
+    let answered = answer_line(session, open_line.bytes(), text, out);
     open_line.clear();
     answered
 }
@@ -157,6 +166,7 @@ fn answer_piece<K: Sink>(
     session: &mut Session,
     open_line: &mut OpenLine,
     piece: &[u8],
+    text: &mut AnswerText,
     out: &mut K,
 ) -> Result<(), SinkFault>
     ensures answered { OnOk result ((files : Files) → AnswersPiece session.old files session.new files open_line.old open_line.new piece.now (K.so_far out.old) (K.so_far out.new)) }
@@ -166,7 +176,7 @@ fn answer_piece<K: Sink>(
 {
     let mut rest = piece;
     'lines: while let Some((line, behind)) = cut_line(rest) {
-        answer_ended(session, open_line, line, out)?;
+        answer_ended(session, open_line, line, text, out)?;
         rest = behind;
     }
     open_line.extend(rest);
@@ -177,6 +187,7 @@ fn answer_piece<K: Sink>(
 fn answer_last<K: Sink>(
     session: &mut Session,
     open_line: &OpenLine,
+    text: &mut AnswerText,
     out: &mut K,
 ) -> Result<(), SinkFault>
     ensures answered { OnOk result ((files : Files) → AnswersEnd session.old files session.new files open_line.now (K.so_far out.old) (K.so_far out.new)) }
@@ -187,7 +198,7 @@ fn answer_last<K: Sink>(
     if open_line.is_empty() {
         return Ok(());
     }
-    answer_line(session, open_line.bytes(), out)
+    answer_line(session, open_line.bytes(), text, out)
 }
 
 /// Answers the lines of a script while it is read. At most one byte past the limit is read.
@@ -204,6 +215,7 @@ fn answer_script<F: Files, K: Sink>(
     ensures run { SameRun session.old session.new }
 {
     let mut open_line = OpenLine::new();
+    let mut text = ArrayVec::new();
     let mut piece = [0; PIECE_BYTES];
     let mut at = 0;
     'pieces: loop {
@@ -213,13 +225,13 @@ fn answer_script<F: Files, K: Sink>(
             break 'pieces;
         }
         let taken = (count as u64).min(MOST_SCRIPT_BYTES - at) as usize;
-        answer_piece(session, &mut open_line, &piece[..taken], out)?;
+        answer_piece(session, &mut open_line, &piece[..taken], &mut text, out)?;
         if taken < count {
             return Err(Stop::TooLong);
         }
         at += count as u64;
     }
-    answer_last(session, &open_line, out)?;
+    answer_last(session, &open_line, &mut text, out)?;
     Ok(())
 }
 

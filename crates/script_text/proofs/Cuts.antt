@@ -6,7 +6,7 @@ use Rattle.spur_graph.specs.Bytes.{Text}
 use Rattle.spur_graph.specs.Words.{words_of, onto_first, spaced}
 use Rattle.script_text.specs.Grammar.{command_of}
 
-other_byte : (b : ℕ) → b ≢ 32 → (b == 32) ≡ false
+pub other_byte : (b : ℕ) → b ≢ 32 → (b == 32) ≡ false
 other_byte b not = elim (b == 32) as (λ v. (b == 32) ≡ v → v ≡ false) [ true ↦ λ e. absurd (not (eqb-true b 32 e)) | false ↦ λ e. refl ] refl
 
 -- the first space ends the first word

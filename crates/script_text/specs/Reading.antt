@@ -21,11 +21,6 @@ abbrev pub Gives : {X Y : Type 0} → (X → Y) → Option X → Option Y → Ty
 Gives shown (Some x) given = given ≡ Some (shown x)
 Gives shown None given = given ≡ None
 
--- the mutator and the command that were read are what the grammar gives
-abbrev pub GivesLine : Option Line → Option (ℕ × Form) → Type 0
-GivesLine (Some read) given = given ≡ Some (read.mutator, view read.command)
-GivesLine None given = given ≡ None
-
 -- the words behind the first one
 abbrev pub words_after : Option (Bor Text) → List Text
 words_after None = []

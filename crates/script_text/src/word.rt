@@ -79,10 +79,9 @@ pub fn name_of(word: &[u8]) -> Option<HandleName>
     if !is_handle_name(word) {
         return None;
     }
-    match str::from_utf8(word) {
-        Ok(text) => HandleName::from(text).ok(),
-        Err(_) => None,
-    }
+    // each byte is a letter, a digit or `_`
+    let text = unsafe { str::from_utf8_unchecked(word) };
+    HandleName::from(text).ok()
 }
 
 /// The file that a word names.
@@ -93,8 +92,7 @@ pub fn file_of(word: &[u8]) -> Option<FileName>
     if !is_file_name(word) {
         return None;
     }
-    match str::from_utf8(word) {
-        Ok(text) => FileName::from(text).ok(),
-        Err(_) => None,
-    }
+    // each byte is a letter, a digit, `.`, `_` or `-`
+    let text = unsafe { str::from_utf8_unchecked(word) };
+    FileName::from(text).ok()
 }

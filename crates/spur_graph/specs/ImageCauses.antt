@@ -3,6 +3,8 @@
 use Rattle.std.specs.Prelude.{ℕ, ◌≡◌, ◌≢◌, ◌+◌, ◌-◌, ◌*◌, ◌/◌, ◌%◌, ◌^◌, ◌<◌, ◌⊎◌, List, [], ◌∷◌, ◌++◌, codes, length, Bool, true, false, nat_eq, not, ◌||◌, if◌then◌else◌, Result, Ok, Err}
 use Rattle.std.specs.Fmt.{decimal}
 use Rattle.spur_graph.specs.declared.limits.Limits.{Limits}
+use Rattle.spur_graph.specs.declared.limits.TheConstants.{MOST_WORDS}
+use Rattle.spur_graph.specs.declared.layout.TheConstants.{GREATEST_BASE}
 use Rattle.spur_graph.specs.Bytes.{Text}
 use Rattle.spur_graph.specs.ImageFile.{header_bytes, spur_format, format, header_size, heap_bytes, base, special_word}
 use Rattle.spur_graph.specs.Segments.{is_good, is_last, left, segment, segments, most_segments, all_words, begin, offset_in}
@@ -62,11 +64,11 @@ number BadSpecial = 14
 
 -- the greatest address that a heap may begin at
 abbrev pub greatest_base : ℕ
-greatest_base = 2 ^ 60
+greatest_base = GREATEST_BASE
 
 -- the most words that a region may have: 1 GiB
 abbrev pub most_words : ℕ
-most_words = 2 ^ 27
+most_words = MOST_WORDS
 
 -- the words that an image and the limits ask for
 abbrev pub needed : List ℕ → Limits → ℕ

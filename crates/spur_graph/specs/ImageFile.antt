@@ -2,14 +2,15 @@
 use Rattle.std.specs.Prelude.{ℕ, List}
 use Rattle.std.specs.Int.{w32, w64}
 use Rattle.spur_graph.specs.Bytes.{number}
+use Rattle.spur_graph.specs.declared.layout.TheConstants.{HEADER_BYTES, SPUR_FORMAT}
 
 -- the length of the header
 abbrev pub header_bytes : ℕ
-header_bytes = 128
+header_bytes = HEADER_BYTES
 
 -- the format of a 64-bit Spur image
 abbrev pub spur_format : ℕ
-spur_format = 68021
+spur_format = SPUR_FORMAT
 
 -- bytes 0 to 3
 abbrev pub format : List ℕ → ℕ

@@ -6,14 +6,15 @@ use Rattle.object_header.specs.Head.{count_of, overflow_slots_of}
 use Rattle.object_header.specs.declared.header.TheConstants.{OVERFLOW_COUNT}
 use Rattle.spur_graph.specs.Bytes.{number, words_in}
 use Rattle.spur_graph.specs.ImageFile.{header_bytes, heap_bytes, base, first_segment}
+use Rattle.spur_graph.specs.declared.layout.TheConstants.{BRIDGE_BYTES, GREATEST_END}
 
 -- the bytes of a bridge
 abbrev pub bridge_bytes : ℕ
-bridge_bytes = 16
+bridge_bytes = BRIDGE_BYTES
 
 -- no segment ends past this address
 abbrev pub greatest_end : ℕ
-greatest_end = 2 ^ 62
+greatest_end = GREATEST_END
 
 -- how many segments an image may have
 abbrev pub most_segments : ℕ

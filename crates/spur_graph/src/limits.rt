@@ -1,5 +1,8 @@
 // The limits of a heap.
 
+/// The most words that the region of a heap may have, a choice of this project.
+pub const MOST_WORDS: usize = 1 << 27;
+
 /// How large the parts of a heap are. No number exceeds 2^27.
 #[derive(Clone, Copy, Debug, PartialEq, Eq)]
 pub struct Limits {

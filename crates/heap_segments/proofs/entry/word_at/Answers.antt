@@ -1,13 +1,18 @@
-use Rattle.std.proofs.Common.{sym, ◌∙◌}
+use Rattle.std.proofs.Common.{◌<◌, ◌-◌, length, sym, ◌∙◌, arith}
 use Rattle.spur_graph.specs.ImageFile.{header_bytes}
-use Rattle.heap_segments.proofs.Laid.{near, none_above, found_entry}
+use Rattle.heap_segments.proofs.Laid.{near, no_word, found_entry, is_empty_list, is_some_list}
 use Rattle.heap_segments.proofs.entry.word_at.Goals as goal
 
-pub returns-in_err-i : goal.returns-in_err-i
-returns-in_err-i c = c.from_residual.ensures ∙ sym (none_above header_bytes 0 0 c.args.entries.now c.args.address c.in_err-i.ensures.none)
+pub returns-then-is_empty : goal.returns-then-is_empty
+returns-then-is_empty c = sym (no_word c.args.entries.now c.args.address (is_empty_list _ c.is_empty.result c.is_empty.ensures c.if-is_empty.true))
 
 pub word-requires : goal.word-requires
-word-requires c = near c.args.entries.now c.in_ok-i.i c.requires c.in_ok-i.ensures.found.within
+word-requires c =
+    let some : 0 < length c.args.entries.now = is_some_list _ c.is_empty.result c.is_empty.ensures c.if-is_empty.false in
+    near c.args.entries.now (length c.args.entries.now - 1) c.requires (omega arith)
 
 pub returns : goal.returns
-returns c = c.word.ensures ∙ sym (found_entry header_bytes 0 0 c.args.entries.now c.args.address c.in_ok-i.i c.requires.laid c.in_ok-i.ensures.found.within c.in_ok-i.ensures.found.low c.in_ok-i.ensures.found.high)
+returns c =
+    let some : 0 < length c.args.entries.now = is_some_list _ c.is_empty.result c.is_empty.ensures c.if-is_empty.false in
+    c.word.ensures
+    ∙ sym (found_entry header_bytes 0 0 c.args.entries.now c.args.address (length c.args.entries.now - 1) c.requires.laid (omega arith) (omega arith) (λ k low lt. absurd (omega (arith, low, lt))))

@@ -1,7 +1,7 @@
 use Rattle.std.proofs.Common.{ap, ◌+◌, ◌∙◌}
 use Rattle.std.specs.Option.{IfSome}
 use Rattle.spur_graph.specs.ImageFile.{header_bytes}
-use Rattle.image_file.specs.Errors.{IsErrorOf}
+use Rattle.image_file.specs.Errors.{IsCauseOf}
 use Rattle.image_file.specs.Whole.{IsFrontOf}
 use Rattle.image_file.proofs.Fronts.{error_handed, file_told, tells_same}
 use Rattle.image_file.proofs.Refusals.{has_header, long_heap, passes_large, passes_length, passes_chain, large_refused, short_refused, chain_refused}
@@ -12,16 +12,16 @@ returns-in_err-header-clause-refused g c =
     let told = g.F.Files.told c.args.files.now in
     let name = c.args.name.now in
     let error = c.in_err-header.field-0.0 in
-    error_handed c.from_residual.result error (λ e. IfSome told (λ store. IsErrorOf (store name) c.args.limits e)) c.from_residual.ensures.1
-    (file_told told name (λ bs. IsErrorOf bs c.args.limits error) (λ file tells. c.in_err-header.ensures.refused file tells c.args.limits))
+    error_handed c.from_residual.result error (λ e. IfSome told (λ store. IsCauseOf (store name) c.args.limits e)) c.from_residual.ensures.1
+    (file_told told name (λ bs. IsCauseOf bs c.args.limits error) (λ file tells. c.in_err-header.ensures.refused file tells c.args.limits))
 
 pub returns-in_err-check_size-clause-refused : goal.returns-in_err-check_size-clause-refused
 returns-in_err-check_size-clause-refused g c =
     let told = g.F.Files.told c.args.files.now in
     let name = c.args.name.now in
     let error = c.in_err-check_size.field-0.0 in
-    error_handed c.from_residual-in_err-check_size.result error (λ e. IfSome told (λ store. IsErrorOf (store name) c.args.limits e)) c.from_residual-in_err-check_size.ensures.1
-    (file_told told name (λ bs. IsErrorOf bs c.args.limits error) (λ file tells.
+    error_handed c.from_residual-in_err-check_size.result error (λ e. IfSome told (λ store. IsCauseOf (store name) c.args.limits e)) c.from_residual-in_err-check_size.ensures.1
+    (file_told told name (λ bs. IsCauseOf bs c.args.limits error) (λ file tells.
     large_refused file c.args.limits c.in_ok-header.header error (c.in_ok-header.ensures.header file tells) (c.in_ok-header.ensures.passes file tells c.args.limits) c.in_err-check_size.ensures.large.0
     c.in_err-check_size.ensures.large.1))
 
@@ -32,8 +32,8 @@ returns-in_err-check_length-clause-refused g c =
     let error = c.in_err-check_length.field-0.0 in
     let header = c.in_ok-header.header in
     let limits = c.args.limits in
-    error_handed c.from_residual-in_err-check_length.result error (λ e. IfSome told (λ store. IsErrorOf (store name) limits e)) c.from_residual-in_err-check_length.ensures.1
-    (file_told told name (λ bs. IsErrorOf bs limits error) (λ file tells.
+    error_handed c.from_residual-in_err-check_length.result error (λ e. IfSome told (λ store. IsCauseOf (store name) limits e)) c.from_residual-in_err-check_length.ensures.1
+    (file_told told name (λ bs. IsCauseOf bs limits error) (λ file tells.
     let is = c.in_ok-header.ensures.header file tells in
     let four = c.in_ok-header.ensures.passes file tells limits in
     let again = tells_same told (g.F.Files.told c.read_header.new.files) name file c.in_ok-header.ensures.same tells in
@@ -47,8 +47,8 @@ returns-in_err-map-clause-refused g c =
     let error = c.in_err-map.field-0.0 in
     let header = c.in_ok-header.header in
     let limits = c.args.limits in
-    error_handed c.from_residual-in_err-map.result error (λ e. IfSome told (λ store. IsErrorOf (store name) limits e)) c.from_residual-in_err-map.ensures.1
-    (file_told told name (λ bs. IsErrorOf bs limits error) (λ file tells.
+    error_handed c.from_residual-in_err-map.result error (λ e. IfSome told (λ store. IsCauseOf (store name) limits e)) c.from_residual-in_err-map.ensures.1
+    (file_told told name (λ bs. IsCauseOf bs limits error) (λ file tells.
     let is = c.in_ok-header.ensures.header file tells in
     let four = c.in_ok-header.ensures.passes file tells limits in
     let again = tells_same told (g.F.Files.told c.read_header.new.files) name file c.in_ok-header.ensures.same tells in

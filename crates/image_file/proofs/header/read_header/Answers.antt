@@ -1,7 +1,7 @@
 use Rattle.std.proofs.Common.{◌≡◌, ℕ, List, length, take, drop, Some, None}
 use Rattle.spur_graph.specs.declared.limits.Limits.{Limits}
 use Rattle.image_file.specs.Told.{Tells}
-use Rattle.image_file.specs.Errors.{IsErrorOf, header_error}
+use Rattle.image_file.specs.Errors.{IsCauseOf, header_error}
 use Rattle.image_file.proofs.Fronts.{error_handed, told_file, front_is, front_short, front_refused, fault_of_file, header_of_file, passes_front, sound_header}
 use Rattle.image_file.proofs.header.read_header.Goals as goal
 
@@ -36,7 +36,7 @@ returns-in_err-read-clause-refused g c =
     let into : List ℕ = c.read_full.new.into in
     let count : ℕ = c.in_ok-count.count in
     error_handed c.from_residual-in_err-read.result (header_error c.in_err-read.field-0.0)
-    (λ e. (file : List ℕ) → Tells (g.F.Files.told c.args.files.now) c.args.name.now file → (limits : Limits) → IsErrorOf file limits e) c.from_residual-in_err-read.ensures.1
+    (λ e. (file : List ℕ) → Tells (g.F.Files.told c.args.files.now) c.args.name.now file → (limits : Limits) → IsCauseOf file limits e) c.from_residual-in_err-read.ensures.1
     (λ file tells limits.
     let front = front_is file into count c.read_full.auto.into c.if-count-lt-HEADER_BYTES.false
     (told_file (g.F.Files.told c.args.files.now) c.args.name.now file (λ bs. take count into ≡ take (length into) (drop 0 bs)) tells c.in_ok-count.ensures.bytes) in

@@ -8,7 +8,7 @@ use Rattle.image_load.specs.declared.image.Image.{Image}
 use Rattle.spur_graph.specs.Cells.{Store}
 use Rattle.image_load.specs.Images.{IsImageOf, IsSoundImage, AreSettled}
 use Rattle.image_load.specs.Passes.{AreTried}
-use Rattle.image_load.proofs.Adopting.{tried, view, image_whole, image_clear, image_stands, adopted_stands}
+use Rattle.image_load.proofs.Adopting.{tried, view, image_whole, image_clear, image_stands, adopted_stands, adopted_in_order}
 use Rattle.image_load.proofs.loader.adopt.Goals as goal
 
 -- the words are those of the image's region, also while it is lent
@@ -68,8 +68,19 @@ returns-clause-stands c bytes i =
     let v : View = view image c.requires front c.put_room.new.region c.in-Ok.special a room long in (
       c.in-Ok.ensures.accepted bytes image.bare.limits (still_tried bytes image c.region_mut-region.result.now c.region_mut-region.ensures.value i),
       adopted_stands v c.adopt-heap.result (loaded_graph bytes) (loaded_room bytes image.bare.limits) c.adopt-heap.ensures c.whole.ensures.whole
-          (image_stands image c.requires front c.put_room.new.region c.in-Ok.special a room long bytes i),
+          (image_stands image c.requires front c.put_room.new.region c.in-Ok.special a room long bytes i).stands,
     )
+
+pub returns-clause-order : goal.returns-clause-order
+returns-clause-order c bytes i =
+    let image = c.args.image in
+    let front : List ℕ = take (total_words image.map) c.settle_front.new.region in
+    let a = still_settled image c.region_mut-region.result.now c.region_mut-region.ensures.value front c.in-Ok.special c.in-Ok.ensures.settled in
+    let h = file_store image.map a.mid in
+    let room = room_behind image c.requires c.words.result c.settle_front.new.region c.put_room.new.region h c.words.ensures (c.put_room.ensures.heap h) a.alone in
+    let long = c.put_room.ensures.same_len ∙ c.in-Ok.ensures.long ∙ ap length c.region_mut-region.ensures.value in
+    let v : View = view image c.requires front c.put_room.new.region c.in-Ok.special a room long in
+    adopted_in_order v c.adopt-heap.result bytes image.bare.limits c.adopt-heap.ensures c.whole.ensures.whole (image_stands image c.requires front c.put_room.new.region c.in-Ok.special a room long bytes i)
 
 pub returns-clause-fresh : goal.returns-clause-fresh
 returns-clause-fresh c = (

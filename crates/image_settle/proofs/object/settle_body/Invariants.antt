@@ -1,7 +1,7 @@
 use Rattle.image_settle.proofs.object.settle_body.Given as goal
 
-abbrev pub ghost-settle_roots : goal.ghost-settle_roots
-ghost-settle_roots g a = g.h
+abbrev pub ghost-settle_object : goal.ghost-settle_object
+ghost-settle_object g a = g.h
 
-abbrev pub ghost-settle_slots : goal.ghost-settle_slots
-ghost-settle_slots g a = g.h
+abbrev pub ghost-settle_any : goal.ghost-settle_any
+ghost-settle_any g a = g.h

@@ -1,4 +1,4 @@
 use Rattle.image_settle.proofs.word.settled_word.Given as goal
 
-abbrev pub ghost-ordinary_start : goal.ghost-ordinary_start
-ghost-ordinary_start g a = g.h
+abbrev pub ghost-value_word : goal.ghost-value_word
+ghost-value_word g a = g.h

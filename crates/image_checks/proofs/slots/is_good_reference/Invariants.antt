@@ -1,5 +1,0 @@
-use Rattle.spur_graph.specs.FileStores.{file_store}
-use Rattle.image_checks.proofs.slots.is_good_reference.Given as goal
-
-abbrev pub ghost-ordinary_start : goal.ghost-ordinary_start
-ghost-ordinary_start a = file_store a.map.now a.words.now
