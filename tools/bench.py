@@ -106,10 +106,45 @@ def run_lines(program, folder, runs, count=1_000_000):
         measure(f"{count:,} lines {label}", words, ["wc", "-l", "lines.script"], count / 1e6, "Mlines", folder, runs)
 
 
+def free_chunks(count):
+    """So many free chunks of different sizes, 2 to 201 words, with an array of one slot between each two."""
+    words = array("Q")
+    array_words = array("Q", [header_word(1, 2, 51), address(NIL)])
+    for i in range(count):
+        size = 2 + i * 7919 % 200
+        words.extend(array_words)
+        words.append(header_word(size - 1, 9, 0))
+        words.extend(array("Q", [0]) * (size - 1))
+    return words
+
+
+def write_free_chunks(path, count):
+    write_image(path, free_chunks(count))
+
+
+def make_objects(program, folder, runs, count=1_000_000):
+    """Makes objects in old space, counts, and makes objects of many sizes over many free chunks. The room is the largest that can be asked for."""
+    front = ["special s", "fetch c s 3"]
+    script = os.path.join(folder, "making.script")
+    for label, lines in [("newold x c 1", ["newold x c 1"]), ("stat", ["stat"])]:
+        write_lines(script, count, front, lines)
+        words = [program, "replay", "base.image", "making.script", "--room", "67108864"]
+        measure(f"{count:,} lines {label}", words, ["wc", "-l", "making.script"], count / 1e6, "Mlines", folder, runs)
+    image = os.path.join(folder, "free.image")
+    writer = multiprocessing.Process(target=write_free_chunks, args=(image, 100_000))
+    writer.start()
+    writer.join()
+    lines = [f"newold x c {1 + i * 127 % 190}" for i in range(1_000)]
+    write_lines(script, 200_000 + len(front), front, lines)
+    words = [program, "replay", "free.image", "making.script", "--room", "67108864"]
+    measure("200,000 newold over 100,000 free chunks", words, ["wc", "-l", "making.script"], 0.2, "Mlines", folder, runs)
+    os.remove(image)
+
+
 def main():
     parser = argparse.ArgumentParser(description=__doc__.splitlines()[0])
     parser.add_argument("--runs", type=int, default=5)
-    parser.add_argument("--only", default="", help="load, lines")
+    parser.add_argument("--only", default="", help="load, lines, making")
     parser.add_argument("--program", default=os.path.join(TOP, "spur"))
     given = parser.parse_args()
     program = os.path.abspath(given.program)
@@ -122,6 +157,8 @@ def main():
             load_images(program, folder, given.runs)
         if not only or "lines" in only:
             run_lines(program, folder, given.runs)
+        if not only or "making" in only:
+            make_objects(program, folder, given.runs)
 
 
 if __name__ == "__main__":

@@ -50,7 +50,7 @@ with_run-parts : (free : Bool) (run : ℕ × ℕ) (runs : List (ℕ × ℕ)) →
 with_run-parts true run runs = refl
 with_run-parts false run runs = refl
 
-free_runs-append : (words : List ℕ) (cs ds : List Chunk) → free_runs words (cs ++ ds) ≡ free_runs words cs ++ free_runs words ds
+pub free_runs-append : (words : List ℕ) (cs ds : List Chunk) → free_runs words (cs ++ ds) ≡ free_runs words cs ++ free_runs words ds
 unfolding free_runs
 free_runs-append words [] ds = refl
 free_runs-append words (c ∷ cs) ds =
@@ -195,7 +195,7 @@ module _ (old words : List ℕ) (free : FreeLists) (at to : ℕ) (cs : List Chun
       go (c ∷ rest) is t = let l = lies old at c t.0 in let u = cuts_up old (at + c.size) to rest t.1 in absurd (omega (arith, l.from, l.room, u))
 
 -- the free chunks of a row begin in it
-free_below : (words : List ℕ) (at to : ℕ) (cs : List Chunk) → Cuts words at to cs → (k : ℕ) → k < at → cover (free_runs words cs) k ≡ 0
+pub free_below : (words : List ℕ) (at to : ℕ) (cs : List Chunk) → Cuts words at to cs → (k : ℕ) → k < at → cover (free_runs words cs) k ≡ 0
 unfolding free_runs
 free_below words at to [] t k lt = refl
 free_below words at to (c ∷ cs) t k lt =

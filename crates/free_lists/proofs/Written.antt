@@ -1,9 +1,10 @@
 -- A free chunk of the lists is a chunk of the form in which `give` writes it.
-use Rattle.std.proofs.Common.{◌≡◌, ℕ, ◌+◌, ◌-◌, ◌<◌, ◌≤◌, List, get_or, refl, sym, arith, true, false, nat_eq, nat_lt, ◌∙◌, ap, inl, inr, max}
+use Rattle.std.proofs.Common.{◌≡◌, ℕ, ◌+◌, ◌-◌, ◌<◌, ◌≤◌, List, cond, get_or, refl, sym, arith, true, false, nat_eq, nat_lt, ◌∙◌, ap, inl, inr, max}
 use Rattle.std.proofs.lemmas.Bool.{cases_lt, lt-ltb}
 use Rattle.std.proofs.lemmas.Bool.Decides.{nat_tests}
 use Rattle.object_header.specs.Head.{class_of, count_of, overflow_slots_of}
 use Rattle.object_header.specs.Chunks.{leads, chunk_of, IsChunk}
+use Rattle.object_header.specs.Fields.{free_header}
 use Rattle.free_lists.specs.Runs.{IsFree}
 use Rattle.free_lists.specs.Rows.{written}
 
@@ -11,6 +12,7 @@ use Rattle.free_lists.specs.Rows.{written}
 pub record IsWritten (words : List ℕ) (at size : ℕ) : Type 0 where
   pub chunk : IsChunk words at (written at size)
   pub class : class_of (get_or words (written at size).start 0) ≡ 0
+  pub header : get_or words (written at size).start 0 ≡ free_header (cond (nat_lt 255 size) 255 (size - 1))
 
 short_chunk : (at w size : ℕ) → 2 ≤ size → leads w ≡ false → count_of w ≡ size - 1 → record { at = at; start = at; size = size; slots = size - 1 } ≡ chunk_of at w
 unfolding chunk_of
@@ -33,6 +35,7 @@ module _ (words : List ℕ) (at size : ℕ) (free : IsFree words at size) where
       record {
         chunk = rw test (record { is = short_chunk at (get_or words at 0) size free.big told f.0; twice = refl });
         class = rw test f.1;
+        header = rw test f.2;
       }
 
   as_long : 255 < size → IsWritten words at size
@@ -44,6 +47,7 @@ module _ (words : List ℕ) (at size : ℕ) (free : IsFree words at size) where
       record {
         chunk = rw test (record { is = long_chunk at (get_or words at 0) size large is f.1; twice = twice ∙ sym is });
         class = rw test f.3;
+        header = rw test f.4;
       }
 
   pub free_is_written : IsWritten words at size

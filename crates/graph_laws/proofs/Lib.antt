@@ -1,4 +1,8 @@
 pub mod Values
+pub mod Named
+pub mod Rooms
+pub mod Fresh
+pub mod Counts
 pub mod Refusals
 pub mod Changes
 pub mod Outcomes

@@ -1,8 +1,12 @@
 -- States that differ in names alone give the same answer to a line.
-use Rattle.std.proofs.Common.{◌≡◌, ℕ, false, ◌||◌, List, [], length, slice_index, slice_index_or, slice_set, refl, sym, ap, ◌∙◌, subst, inl, inr, Some, None, Option, le-leb, zero-le}
+use Rattle.std.proofs.Common.{◌≡◌, ◌+◌, ℕ, zero, suc, Bool, true, false, ◌||◌, if◌then◌else◌, nat_eq, List, [], ◌∷◌, length, map, replicate, slice_index, slice_index_or, slice_set, refl, sym, ap, ◌∙◌, subst, arith, inl, inr, Some, None, Option}
 use Rattle.std.proofs.lemmas.List.{length-map, map-set}
-use Rattle.std.proofs.lemmas.Option.{none-some}
 use Rattle.std.proofs.Math.ListN.{get_or-map}
+use Rattle.std.specs.Option.{option_map, unwrap_or}
+use Rattle.std.specs.List.{All, flat_map, sum}
+use Rattle.std.specs.FinMap.{get, len}
+use Rattle.std.specs.FinSet.{contains}
+use Rattle.object_header.specs.Formats.{pointer_slots_of}
 use Rattle.spur_graph.specs.declared.answer.Answer.{Answer}
 use Rattle.spur_graph.specs.declared.answer.Answer.TheVariants as answers
 use Rattle.spur_graph.specs.declared.answer.Refusal.{Refusal}
@@ -14,18 +18,29 @@ use Rattle.spur_graph.specs.Value.{is_immediate, same_value}
 use Rattle.spur_graph.specs.Node.{Node}
 use Rattle.spur_graph.specs.Names.{rename, rename_node}
 use Rattle.spur_graph.specs.Bytes.{Text}
-use Rattle.spur_graph.specs.Form.{Form, Special, Nil, Yes, No, Int, Char, Float, Copy, Drop, Kind, Class, Size, Fetch, Store, Unit, SetUnit, Same}
-use Rattle.spur_graph.specs.State.{State, value_at, name_at, node_of_handle}
-use Rattle.spur_graph.specs.Shows.{shown}
-use Rattle.spur_graph.specs.Classes.{class_value}
-use Rattle.spur_graph.specs.Refusals.{test, index_in}
+use Rattle.spur_graph.specs.Form.{Form, Special, Nil, Yes, No, Int, Char, Float, Copy, Drop, Kind, Class, Size, Fetch, Store, Unit, SetUnit, Same, New, NewOld, Enter, Hash, Stat}
+use Rattle.spur_graph.specs.Graph.{blank, HasNode}
+use Rattle.spur_graph.specs.Room.{Room, fresh_words, fresh_spot}
+use Rattle.spur_graph.specs.FreeSizes.{largest}
+use Rattle.spur_graph.specs.Serve.{Source, Anywhere, OldAlone, Served, serve}
+use Rattle.spur_graph.specs.Instances.{fresh_node, layout_in, slots_for, format_for, instance}
+use Rattle.spur_graph.specs.Hashes.{next_state, drawn, hash_now, with_hash, hashed, free_index, entered}
+use Rattle.spur_graph.specs.State.{State, value_at, name_at, node_of_handle, with_graph, with_fresh, made, slots_asked, words_asked}
+use Rattle.spur_graph.specs.Shows.{shown, stat_of}
+use Rattle.spur_graph.specs.Classes.{class_index, class_value}
+use Rattle.spur_graph.specs.Refusals.{test}
 use Rattle.spur_graph.specs.Refused.{row, refused}
-use Rattle.spur_graph.specs.Does.{Outcome, outcome, Is, Chooses, Does}
-use Rattle.spur_graph.specs.Step.{long, syntax, refusal, done, RefusesLater, Refuses, Passes, Leaves, Renamed}
+use Rattle.spur_graph.specs.Does.{Outcome, ok, new_instance, room_entered, outcome, Is, Does}
+use Rattle.spur_graph.specs.Step.{long, syntax, refusal, done, Answers, RefusesLater, Refuses, Passes, SameRoom, Renamed}
 use Rattle.graph_laws.specs.FixedNames.{AnswersAlike}
-use Rattle.graph_laws.proofs.Values.{value_at-renamed, name_at-renamed, node_of_handle-renamed, same_value-renamed, shown-renamed, class_value-renamed}
+use Rattle.spur_graph.proofs.HandleMaps.{as_many_handles}
+use Rattle.graph_laws.proofs.Values.{layout_in-renamed, free_index-renamed, value_at-renamed, name_at-renamed, node_of_handle-renamed, same_value-renamed, shown-renamed, class_value-renamed}
 use Rattle.graph_laws.proofs.Refusals.{none_in_row, no_immediate, refused-renamed}
-use Rattle.graph_laws.proofs.Changes.{bound-renamed, dropped-renamed, changed-renamed}
+use Rattle.graph_laws.proofs.Changes.{bound-renamed, dropped-renamed, changed-renamed, state-renamed, entered-renamed, made-renamed, q}
+use Rattle.graph_laws.proofs.Fresh.{fresh-iso, fresh-room}
+use Rattle.graph_laws.proofs.Counts.{len-renamed, waiting-renamed}
+use Rattle.graph_laws.proofs.Rooms.{with_places, served_with, serve-same, served-keeps, entered-same, entered-keeps}
+use Rattle.graph_laws.proofs.Named.{IsNamed, all_named, value_at-named, name_at-named, slot-named, set-named, replicate-named, names_nothing, has_name, get-here, bound-named, dropped-named, changed-named, room-named, state-named, entry-named, fresh-named}
 
 -- the outcomes answer alike and lead to states that differ in names alone, or there is none
 abbrev Alike : Option Outcome → Option Outcome → Type 0
@@ -33,13 +48,21 @@ Alike None u = u ≡ None
 Alike (Some a) None = ⊥
 Alike (Some a) (Some b) = (b.0 ≡ a.0) × Renamed a.1 b.1
 
--- an index into nothing is refused
-index_in_none : {X : Type 0} (xs : List X) (i : ℕ) → index_in xs i ≡ None → xs ≡ [] → ⊥
-index_in_none xs i passes e =
-    let refused : index_in xs i ≡ Some r.Index = ap (λ ys. index_in ys i) e ∙ ap (λ b. test b r.Index) (le-leb 0 i zero-le) in
-    none-some r.Index (sym passes ∙ refused)
+-- a value in each place
+map-replicate : {X Y : Type 0} (f : X → Y) (n : ℕ) (x : X) → map f (replicate n x) ≡ replicate n (f x)
+map-replicate f zero x = refl
+map-replicate f (suc n) x = ap (λ ys. f x ∷ ys) (map-replicate f n x)
 
-module _ {s t : State} (k : Renamed s t) (m : ℕ) where
+-- a fresh node under other names
+pub fresh_node-renamed : (p : ℕ → ℕ) (nil class format slots : ℕ) → fresh_node (p nil) class format slots ≡ rename_node p (fresh_node nil class format slots)
+fresh_node-renamed p nil class format slots = ap (λ vs. record (fresh_node (p nil) class format slots) { pointers = vs }) (sym (map-replicate (rename p) (pointer_slots_of format slots 0) (Ref nil)))
+
+-- outcomes of what is served, or is there, on both sides
+mapped-alike : {X : Type 0} (o u : Option X) (f g : X → Outcome) (w : X → X) → u ≡ option_map w o → ((x : X) → o ≡ Some x → Alike (Some (f x)) (Some (g (w x)))) → Alike (option_map f o) (option_map g u)
+mapped-alike None u f g w e alike = ap (option_map g) e
+mapped-alike (Some x) u f g w e alike = subst (λ z. Alike (Some (f x)) (option_map g z)) (sym e) (alike x refl)
+
+module _ {s t : State} (named : IsNamed s) (k : Renamed s t) (m : ℕ) where
   abbrev corresponds : Text → Type 0
   corresponds o = node_of_handle t.graph m o ≡ rename_node k.p (node_of_handle s.graph m o)
 
@@ -64,7 +87,107 @@ module _ {s t : State} (k : Renamed s t) (m : ℕ) where
       (λ j. record (same j) { pointers = slice_set (same j).pointers i (e j) })
       ∙ ap (λ vs. record n { pointers = vs }) (sym (map-set (rename k.p) n.pointers i v))
 
-  -- what a command answers and does, where nothing refuses it. A node that is written has the slot or the unit, so that its name had a node
+  -- the name of a handle that is no immediate has a node
+  there : (o : Text) → is_immediate (value_at s.graph m o) ≡ false → get s.graph.nodes (name_at s.graph m o) ≡ Some (node_of_handle s.graph m o)
+  there o bare = let n = name_at-named named m o bare in n.1 ∙ ap Some (sym (ap (λ x. unwrap_or x blank) n.1))
+
+  -- an instance under the names with the fresh one
+  instance-alike : (c : Text) (n : ℕ) → is_immediate (value_at s.graph m c) ≡ false → instance t.graph (node_of_handle t.graph m c) n ≡ rename_node (q k named t.graph.next (k.next t.graph.next (omega arith))) (instance s.graph (node_of_handle s.graph m c) n)
+  instance-alike c n bare =
+      let e = node_of_handle-renamed k.graph m c bare in
+      let class = node_of_handle s.graph m c in
+      ap (λ x. instance t.graph x n) e
+      ∙ ap (λ l. fresh_node t.graph.nil class.hash (format_for l n) (slots_for l n)) (layout_in-renamed k.p class)
+      ∙ ap (λ nil. fresh_node nil class.hash (format_for (layout_in class) n) (slots_for (layout_in class) n)) (fresh-iso named k.graph t.graph.next (k.next t.graph.next (omega arith))).nil
+      ∙ fresh_node-renamed (q k named t.graph.next (k.next t.graph.next (omega arith))) s.graph.nil class.hash (format_for (layout_in class) n) (slots_for (layout_in class) n)
+
+  slots-alike : (c : Text) (n : ℕ) → is_immediate (value_at s.graph m c) ≡ false → slots_asked t.graph m c n ≡ slots_asked s.graph m c n
+  slots-alike c n bare = ap (λ l. slots_for l n) (ap layout_in (node_of_handle-renamed k.graph m c bare) ∙ layout_in-renamed k.p (node_of_handle s.graph m c))
+
+  -- a fresh instance, whose words are served on both sides
+  new-alike : (h c : Text) (n : ℕ) (source : Source) → is_immediate (value_at s.graph m c) ≡ false
+      → Alike (option_map (λ served. ok (new_instance s m h c n served)) (serve source s.room (words_asked s.graph m c n))) (option_map (λ served. ok (new_instance t m h c n served)) (serve source t.room (words_asked t.graph m c n)))
+  new-alike h c n source bare = mapped-alike (serve source s.room (words_asked s.graph m c n)) (serve source t.room (words_asked t.graph m c n))
+      (λ served. ok (new_instance s m h c n served)) (λ served. ok (new_instance t m h c n served)) (served_with t.room.spots t.room.old_names)
+      (ap (λ l. serve source t.room (fresh_words l)) (slots-alike c n bare) ∙ serve-same k.room source (words_asked s.graph m c n))
+      (λ served e.
+      let keep = served-keeps source s.room (words_asked s.graph m c n) served e in
+      let room = fresh-room named k.graph t.graph.next (k.next t.graph.next (omega arith)) k.room in
+      let left : SameRoom served.room (with_places t.room.spots t.room.old_names served.room) (q k named t.graph.next (k.next t.graph.next (omega arith))) = record {
+        spots = λ a. room.spots a ∙ ap (λ x. get x a) (sym keep.spots);
+        old_names = λ a. room.old_names a ∙ ap (λ x. contains x a) (sym keep.old_names);
+        rest = refl;
+      } in
+      let spot = fresh_spot served.space (slots_asked s.graph m c n) in (
+        refl,
+        subst (λ l. Renamed (new_instance s m h c n served) (made t m h (instance t.graph (node_of_handle t.graph m c) n) l (served_with t.room.spots t.room.old_names served))) (sym (slots-alike c n bare))
+            (made-renamed k named t.graph.next (k.next t.graph.next (omega arith)) m h (instance s.graph (node_of_handle s.graph m c) n) (instance t.graph (node_of_handle t.graph m c) n) served.room (with_places t.room.spots t.room.old_names served.room) spot (t.graph.next + 1) (instance-alike c n bare) left (λ b l. (λ same. omega (arith, same, l), omega (arith, l)))),
+      ))
+
+  -- a hash is had, or is drawn on both sides
+  hash_of : (o : Text) → is_immediate (value_at s.graph m o) ≡ false → (node_of_handle t.graph m o).hash ≡ (node_of_handle s.graph m o).hash
+  hash_of o bare = ap (λ (n : Node). n.hash) (node_of_handle-renamed k.graph m o bare)
+
+  hash_now-alike : (o : Text) → is_immediate (value_at s.graph m o) ≡ false → hash_now t.graph (name_at t.graph m o) ≡ hash_now s.graph (name_at s.graph m o)
+  hash_now-alike o bare = λ i. if nat_eq (hash_of o bare i) 0 then drawn (k.graph.hash_state i) else hash_of o bare i
+
+  with_hash-alike : (o : Text) (hash : ℕ) → is_immediate (value_at s.graph m o) ≡ false → Renamed (with_graph s (with_hash s.graph (name_at s.graph m o) hash)) (with_graph t (with_hash t.graph (name_at t.graph m o) hash))
+  with_hash-alike o hash bare = changed-renamed k (name_at s.graph m o) (name_at t.graph m o) (node_of_handle s.graph m o)
+      (record (node_of_handle s.graph m o) { hash = hash }) (record (node_of_handle t.graph m o) { hash = hash })
+      (name_at-renamed k.graph m o bare) (there o bare) (ap (λ (n : Node). record n { hash = hash }) (node_of_handle-renamed k.graph m o bare))
+
+  hashed-alike : (o : Text) → is_immediate (value_at s.graph m o) ≡ false → Renamed (with_graph s (hashed s.graph (name_at s.graph m o))) (with_graph t (hashed t.graph (name_at t.graph m o)))
+  hashed-alike o bare = subst
+      (λ hash. Renamed (with_graph s (hashed s.graph (name_at s.graph m o)))
+      (with_graph t (if nat_eq hash 0 then record (with_hash t.graph (name_at t.graph m o) (drawn t.graph.hash_state)) { hash_state = next_state t.graph.hash_state } else t.graph)))
+      (sym (hash_of o bare)) (by (nat_eq (node_of_handle s.graph m o).hash 0))
+    where
+      by : (b : Bool) → Renamed
+          (with_graph s (if b then record (with_hash s.graph (name_at s.graph m o) (drawn s.graph.hash_state)) { hash_state = next_state s.graph.hash_state } else s.graph))
+          (with_graph t (if b then record (with_hash t.graph (name_at t.graph m o) (drawn t.graph.hash_state)) { hash_state = next_state t.graph.hash_state } else t.graph))
+      by true = subst
+          (λ x. Renamed (with_graph s (record (with_hash s.graph (name_at s.graph m o) (drawn s.graph.hash_state)) { hash_state = next_state s.graph.hash_state }))
+          (with_graph t (record (with_hash t.graph (name_at t.graph m o) (drawn x)) { hash_state = next_state x })))
+          (sym k.graph.hash_state) (state-renamed (with_hash-alike o (drawn s.graph.hash_state) bare) (next_state s.graph.hash_state))
+      by false = k
+
+  -- a class is entered at one index on both sides
+  enter-alike : (c : Text) → is_immediate (value_at s.graph m c) ≡ false → Alike (outcome s m (Enter c)) (outcome t m (Enter c))
+  enter-alike c bare = subst
+      (λ j. Alike (outcome s m (Enter c)) (option_map (λ room. (answers.Number j, record t { graph = entered t.graph (name_at t.graph m c) j; room = room })) (room_entered t.room j)))
+      (sym (free_index-renamed k.graph))
+      (mapped-alike (room_entered s.room i) (room_entered t.room i)
+      (λ room. (answers.Number i, record s { graph = entered s.graph (name_at s.graph m c) i; room = room })) (λ room. (answers.Number i, record t { graph = entered t.graph (name_at t.graph m c) i; room = room }))
+      (with_places t.room.spots t.room.old_names) (entered-same k.room i)
+      (λ room e.
+      let keep = entered-keeps s.room room i e in
+      let left : SameRoom room (with_places t.room.spots t.room.old_names room) k.p = record {
+        spots = λ a. k.room.spots a ∙ ap (λ x. get x a) (sym keep.spots);
+        old_names = λ a. k.room.old_names a ∙ ap (λ x. contains x a) (sym keep.old_names);
+        rest = refl;
+      } in (
+        refl,
+        entered-renamed k i (name_at s.graph m c) (name_at t.graph m c) (node_of_handle s.graph m c)
+            (record (node_of_handle s.graph m c) { hash = i }) (record (node_of_handle t.graph m c) { hash = i }) room (with_places t.room.spots t.room.old_names room)
+            (name_at-renamed k.graph m c bare) (there c bare) (ap (λ (n : Node). record n { hash = i }) (node_of_handle-renamed k.graph m c bare)) left,
+      )))
+    where
+      i : ℕ
+      i = free_index s.graph
+
+  -- what is counted
+  stat-alike : stat_of t.graph t.room ≡ stat_of s.graph s.room
+  stat-alike = λ i. record {
+    nodes = len-renamed (rename_node k.p) k.p k.back k.graph.left k.graph.right (len s.graph.nodes) s.graph.nodes t.graph.nodes refl k.graph.nodes i;
+    handles = as_many_handles (rename k.p) s.graph.handles t.graph.handles k.graph.handles i;
+    mourners = (ap (λ groups. length (flat_map (λ (g : List ℕ). g) groups)) k.graph.mourners ∙ waiting-renamed (rename k.p) k.p k.back k.graph.left k.graph.right s.graph.mourners) i;
+    free = sum (k.room.rest i).free;
+    largest = largest (k.room.rest i).free;
+    eden = (k.room.rest i).eden_left;
+    past = (k.room.rest i).past_used;
+  }
+
+  -- what a command answers and does, where nothing refuses it
   alike : (form : Form) → refused s m form ≡ None → refused t m form ≡ None → Alike (outcome s m form) (outcome t m form)
   alike (Special h) e f = (refl, bound-renamed k m h s.graph.special t.graph.special k.graph.special)
   alike (Nil h) e f = (refl, bound-renamed k m h (Ref s.graph.nil) (Ref t.graph.nil) (ap Ref k.graph.nil))
@@ -82,35 +205,120 @@ module _ {s t : State} (k : Renamed s t) (m : ℕ) where
   alike (Class h o) e f = (refl, bound-renamed k m h _ _ (ap (class_value t.graph) (value_at-renamed k.graph m o) ∙ class_value-renamed k.graph (value_at s.graph m o)))
   alike (Size o) e f = (sized o (nodes-alike o (none_in_row (row s m (Size o)) e).1.0), k)
   alike (Store o i v) e f =
-      let bare : is_immediate (value_at s.graph m o) ≡ false = no_immediate _ (none_in_row (row s m (Store o i v)) e).1.0 in
-      let index : index_in (node_of_handle t.graph m o).pointers i ≡ None = (none_in_row (row t m (Store o i v)) f).1.1.1.0 in (
+      let bare : is_immediate (value_at s.graph m o) ≡ false = no_immediate _ (none_in_row (row s m (Store o i v)) e).1.0 in (
         refl,
-        changed-renamed k (name_at s.graph m o) (name_at t.graph m o)
-            (λ n. record n { pointers = slice_set n.pointers i (value_at s.graph m v) }) (λ n. record n { pointers = slice_set n.pointers i (value_at t.graph m v) })
-            (name_at-renamed k.graph m o bare)
-            (stored (node_of_handle s.graph m o) (node_of_handle t.graph m o) i (value_at s.graph m v) (value_at t.graph m v) (node_of_handle-renamed k.graph m o bare) (value_at-renamed k.graph m v))
-            (λ none. index_in_none (node_of_handle t.graph m o).pointers i index (ap (λ (n : Node). n.pointers) none)),
+        changed-renamed k (name_at s.graph m o) (name_at t.graph m o) (node_of_handle s.graph m o)
+            (record (node_of_handle s.graph m o) { pointers = slice_set (node_of_handle s.graph m o).pointers i (value_at s.graph m v) })
+            (record (node_of_handle t.graph m o) { pointers = slice_set (node_of_handle t.graph m o).pointers i (value_at t.graph m v) })
+            (name_at-renamed k.graph m o bare) (there o bare)
+            (stored (node_of_handle s.graph m o) (node_of_handle t.graph m o) i (value_at s.graph m v) (value_at t.graph m v) (node_of_handle-renamed k.graph m o bare) (value_at-renamed k.graph m v)),
       )
   alike (Unit o i) e f = (ap (λ (n : Node). answers.Number (slice_index n.units i)) (nodes-alike o (none_in_row (row s m (Unit o i)) e).1.0), k)
   alike (SetUnit o i u) e f =
-      let bare : is_immediate (value_at s.graph m o) ≡ false = no_immediate _ (none_in_row (row s m (SetUnit o i u)) e).1.0 in
-      let index : index_in (node_of_handle t.graph m o).units i ≡ None = (none_in_row (row t m (SetUnit o i u)) f).1.1.1.0 in (
+      let bare : is_immediate (value_at s.graph m o) ≡ false = no_immediate _ (none_in_row (row s m (SetUnit o i u)) e).1.0 in (
         refl,
-        changed-renamed k (name_at s.graph m o) (name_at t.graph m o)
-            (λ n. record n { units = slice_set n.units i u }) (λ n. record n { units = slice_set n.units i u })
-            (name_at-renamed k.graph m o bare)
-            (ap (λ (n : Node). record n { units = slice_set n.units i u }) (node_of_handle-renamed k.graph m o bare))
-            (λ none. index_in_none (node_of_handle t.graph m o).units i index (ap (λ (n : Node). n.units) none)),
+        changed-renamed k (name_at s.graph m o) (name_at t.graph m o) (node_of_handle s.graph m o)
+            (record (node_of_handle s.graph m o) { units = slice_set (node_of_handle s.graph m o).units i u })
+            (record (node_of_handle t.graph m o) { units = slice_set (node_of_handle t.graph m o).units i u })
+            (name_at-renamed k.graph m o bare) (there o bare)
+            (ap (λ (n : Node). record n { units = slice_set n.units i u }) (node_of_handle-renamed k.graph m o bare)),
       )
   alike (Same a b) e f =
       let same : same_value (value_at t.graph m a) (value_at t.graph m b) ≡ same_value (rename k.p (value_at s.graph m a)) (rename k.p (value_at s.graph m b))
       = λ i. same_value (value_at-renamed k.graph m a i) (value_at-renamed k.graph m b i) in
       (ap answers.Truth (same ∙ same_value-renamed k.graph (value_at s.graph m a) (value_at s.graph m b)), k)
+  alike (New h c n) e f = new-alike h c n Anywhere (no_immediate _ (none_in_row (row s m (New h c n)) e).1.1.0)
+  alike (NewOld h c n) e f = new-alike h c n OldAlone (no_immediate _ (none_in_row (row s m (NewOld h c n)) e).1.1.0)
+  alike (Enter c) e f = enter-alike c (no_immediate _ (none_in_row (row s m (Enter c)) e).1.0)
+  alike (Hash o) e f = let bare = no_immediate _ (none_in_row (row s m (Hash o)) e).1.0 in (ap answers.Number (hash_now-alike o bare), hashed-alike o bare)
+  alike Stat e f = (ap answers.Stat stat-alike, k)
   alike form e f = refl
 
-  -- a command chooses among the same answers under other names; no command has a choice
-  chosen-alike : (form : Form) (answer : Answer) (new : State) → Chooses t m form answer new → (end : State) × Chooses s m form answer end × Renamed end new
-  chosen-alike form answer new chooses = absurd chooses
+  -- whatever a command leads to speaks of names that have nodes
+  is-named : (answer : Answer) (new : State) (o : Outcome) → IsNamed o.1 → Is (Some o) answer new → IsNamed new
+  is-named answer new o known is = subst IsNamed (sym is.1) known
+
+  pointers_of : (o : Text) → is_immediate (value_at s.graph m o) ≡ false → All (HasNode s.graph) (node_of_handle s.graph m o).pointers
+  pointers_of o bare = named.pointers (name_at s.graph m o) (node_of_handle s.graph m o) (there o bare)
+
+  class-named : (v : Value) → HasNode s.graph (class_value s.graph v)
+  class-named v = by (get s.graph.classes (class_index s.graph v)) refl
+    where
+      by : (o : Option Value) → get s.graph.classes (class_index s.graph v) ≡ o → HasNode s.graph (unwrap_or o (Ref s.graph.nil))
+      by None e = named.nil
+      by (Some w) e = named.classes (class_index s.graph v) w e
+
+  new-named : (h c : Text) (n : ℕ) (source : Source) (answer : Answer) (new : State)
+      → Is (option_map (λ served. ok (new_instance s m h c n served)) (serve source s.room (words_asked s.graph m c n))) answer new → IsNamed new
+  new-named h c n source answer new is = by (serve source s.room (words_asked s.graph m c n)) refl is
+    where
+      by : (o : Option Served) → serve source s.room (words_asked s.graph m c n) ≡ o → Is (option_map (λ served. ok (new_instance s m h c n served)) o) answer new → IsNamed new
+      by None e is = absurd is
+      by (Some served) e is =
+          let node = instance s.graph (node_of_handle s.graph m c) n in
+          let spot = fresh_spot served.space (slots_asked s.graph m c n) in
+          let fresh = fresh-named (room-named named served.room (served-keeps source s.room (words_asked s.graph m c n) served e)) node spot (replicate-named s.graph _ (Ref s.graph.nil) named.nil) in
+          is-named answer new (ok (new_instance s m h c n served)) (bound-named fresh m h (Ref s.graph.next) (has_name (with_fresh s.graph node) s.graph.next node (get-here s.graph s.graph.next node))) is
+
+  hash-named : (o : Text) (hash : ℕ) → is_immediate (value_at s.graph m o) ≡ false → IsNamed (with_graph s (with_hash s.graph (name_at s.graph m o) hash))
+  hash-named o hash bare = changed-named named (name_at s.graph m o) (node_of_handle s.graph m o) (record (node_of_handle s.graph m o) { hash = hash }) (there o bare) (pointers_of o bare)
+
+  hashed-named : (o : Text) → is_immediate (value_at s.graph m o) ≡ false → IsNamed (with_graph s (hashed s.graph (name_at s.graph m o)))
+  hashed-named o bare = by (nat_eq (node_of_handle s.graph m o).hash 0)
+    where
+      by : (b : Bool) → IsNamed (with_graph s (if b then record (with_hash s.graph (name_at s.graph m o) (drawn s.graph.hash_state)) { hash_state = next_state s.graph.hash_state } else s.graph))
+      by true = state-named (hash-named o (drawn s.graph.hash_state) bare) (next_state s.graph.hash_state)
+      by false = named
+
+  enter-named : (c : Text) (answer : Answer) (new : State) → is_immediate (value_at s.graph m c) ≡ false → Is (outcome s m (Enter c)) answer new → IsNamed new
+  enter-named c answer new bare is = by (room_entered s.room (free_index s.graph)) refl is
+    where
+      i : ℕ
+      i = free_index s.graph
+
+      by : (o : Option Room) → room_entered s.room (free_index s.graph) ≡ o
+          → Is (option_map (λ room. (answers.Number (free_index s.graph), record s { graph = entered s.graph (name_at s.graph m c) (free_index s.graph); room = room })) o) answer new → IsNamed new
+      by None e is = absurd is
+      by (Some room) e is =
+          let hash = hash-named c i bare in
+          let class = record (node_of_handle s.graph m c) { hash = i } in
+          let entry = entry-named hash i (Ref (name_at s.graph m c)) (has_name (with_hash s.graph (name_at s.graph m c) i) (name_at s.graph m c) class (get-here s.graph (name_at s.graph m c) class)) in
+          let keep = entered-keeps s.room room i e in
+          subst IsNamed (sym is.1) (room-named entry room (record { spots = keep.spots; old_names = keep.old_names }))
+
+  stays_named : (form : Form) (answer : Answer) (new : State) → refused s m form ≡ None → Is (outcome s m form) answer new → IsNamed new
+  stays_named (Special h) answer new e is = is-named answer new _ (bound-named named m h s.graph.special named.special) is
+  stays_named (Nil h) answer new e is = is-named answer new _ (bound-named named m h (Ref s.graph.nil) named.nil) is
+  stays_named (Yes h) answer new e is = is-named answer new _ (bound-named named m h (Ref s.graph.yes) named.yes) is
+  stays_named (No h) answer new e is = is-named answer new _ (bound-named named m h (Ref s.graph.no) named.no) is
+  stays_named (Int h n) answer new e is = is-named answer new _ (bound-named named m h (values.Int n) (names_nothing s.graph (values.Int n) refl)) is
+  stays_named (Char h n) answer new e is = is-named answer new _ (bound-named named m h (values.Char n) (names_nothing s.graph (values.Char n) refl)) is
+  stays_named (Float h w) answer new e is = is-named answer new _ (bound-named named m h (values.Float w) (names_nothing s.graph (values.Float w) refl)) is
+  stays_named (Copy h o) answer new e is = is-named answer new _ (bound-named named m h (value_at s.graph m o) (value_at-named named m o)) is
+  stays_named (Drop h) answer new e is = is-named answer new _ (dropped-named named m h) is
+  stays_named (Kind o) answer new e is = is-named answer new _ named is
+  stays_named (Class h o) answer new e is = is-named answer new _ (bound-named named m h (class_value s.graph (value_at s.graph m o)) (class-named (value_at s.graph m o))) is
+  stays_named (Size o) answer new e is = is-named answer new _ named is
+  stays_named (Fetch h o i) answer new e is =
+      let bare = no_immediate _ (none_in_row (row s m (Fetch h o i)) e).1.1.0 in
+      is-named answer new _ (bound-named named m h _ (slot-named named (node_of_handle s.graph m o).pointers i (pointers_of o bare))) is
+  stays_named (Store o i v) answer new e is =
+      let bare = no_immediate _ (none_in_row (row s m (Store o i v)) e).1.0 in
+      is-named answer new _ (changed-named named (name_at s.graph m o) (node_of_handle s.graph m o)
+      (record (node_of_handle s.graph m o) { pointers = slice_set (node_of_handle s.graph m o).pointers i (value_at s.graph m v) }) (there o bare)
+      (set-named s.graph (node_of_handle s.graph m o).pointers i (value_at s.graph m v) (value_at-named named m v) (pointers_of o bare))) is
+  stays_named (Unit o i) answer new e is = is-named answer new _ named is
+  stays_named (SetUnit o i u) answer new e is =
+      let bare = no_immediate _ (none_in_row (row s m (SetUnit o i u)) e).1.0 in
+      is-named answer new _ (changed-named named (name_at s.graph m o) (node_of_handle s.graph m o)
+      (record (node_of_handle s.graph m o) { units = slice_set (node_of_handle s.graph m o).units i u }) (there o bare) (pointers_of o bare)) is
+  stays_named (Same a b) answer new e is = is-named answer new _ named is
+  stays_named (New h c n) answer new e is = new-named h c n Anywhere answer new is
+  stays_named (NewOld h c n) answer new e is = new-named h c n OldAlone answer new is
+  stays_named (Enter c) answer new e is = enter-named c answer new (no_immediate _ (none_in_row (row s m (Enter c)) e).1.0) is
+  stays_named (Hash o) answer new e is = is-named answer new _ (hashed-named o (no_immediate _ (none_in_row (row s m (Hash o)) e).1.0)) is
+  stays_named Stat answer new e is = is-named answer new _ named is
+  stays_named form answer new e is = absurd is
 
   -- what refuses a command while it is carried out is the same under other names; no command has such refusals
   later-there : (form : Form) (why : Refusal) → RefusesLater s m form why → RefusesLater t m form why
@@ -119,39 +327,40 @@ module _ {s t : State} (k : Renamed s t) (m : ℕ) where
   later-here : (form : Form) (why : Refusal) → RefusesLater t m form why → RefusesLater s m form why
   later-here form why later = absurd later
 
-  -- a refusal leaves the state as it was
-  leaves-alike : (form : Form) (why : Refusal) (new : State) → Leaves t m form why new → (end : State) × Leaves s m form why end × Renamed end new
-  leaves-alike form why new leaves = (s, refl, subst (λ x. Renamed s x) (sym leaves) k)
-
 -- an outcome is had in both states
 had : (o u : Option Outcome) (answer : Answer) (new : State) → Alike o u → Is u answer new → (end : State) × Is o answer end × Renamed end new
 had None u answer new a is = absurd (subst (λ x. Is x answer new) a is)
 had (Some o) None answer new a is = absurd a
 had (Some o) (Some u) answer new a is = (o.1, (is.0 ∙ a.0, refl), subst (λ x. Renamed o.1 x) (sym is.1) a.1)
 
-module _ {s t : State} (k : Renamed s t) (m : ℕ) (form : Form) where
+module _ {s t : State} (named : IsNamed s) (k : Renamed s t) (m : ℕ) (form : Form) where
   refused-alike : refused s m form ≡ refused t m form
-  refused-alike = sym (refused-renamed s t k.p k.back k.graph m form)
+  refused-alike = sym (refused-renamed s t k.p k.back k.graph k.room m form)
 
   refuses-alike : (why : Refusal) → Refuses t m form why → Refuses s m form why
   refuses-alike why (inl row) = inl (refused-alike ∙ row)
-  refuses-alike why (inr later) = inr (refused-alike ∙ later.0, later-here k m form why later.1)
+  refuses-alike why (inr later) = inr (refused-alike ∙ later.0, later-here named k m form why later.1)
 
   passes-alike : Passes t m form → Passes s m form
-  passes-alike passes = (refused-alike ∙ passes.0, λ why later. passes.1 why (later-there k m form why later))
+  passes-alike passes = (refused-alike ∙ passes.0, λ why later. passes.1 why (later-there named k m form why later))
 
-  does-alike : (answer : Answer) (new : State) → Passes t m form → Does t m form answer new → (end : State) × Does s m form answer end × Renamed end new
+  does-alike : (answer : Answer) (new : State) → Passes t m form → Does t m form answer new → (end : State) × Does s m form answer end × Renamed end new × IsNamed end
   does-alike answer new passes (inl is) =
-      let found = had (outcome s m form) (outcome t m form) answer new (alike k m form (passes-alike passes).0 passes.0) is in
-      (found.0, inl found.1, found.2)
-  does-alike answer new passes (inr chooses) = let found = chosen-alike k m form answer new chooses in (found.0, inr found.1, found.2)
+      let found = had (outcome s m form) (outcome t m form) answer new (alike named k m form (passes-alike passes).0 passes.0) is in
+      (found.0, inl found.1, found.2, stays_named named k m form answer found.0 (passes-alike passes).0 found.1)
+  does-alike answer new passes (inr chooses) = absurd chooses
+
+-- the same line has the same answer, and leads to a state that speaks of names that have nodes too
+pub answered_alike : (s t new : State) (text : Text) (answer : Answer) → IsNamed s → Renamed s t → Answers t text answer new → (end : State) × Answers s text answer end × Renamed end new × IsNamed end
+answered_alike s t new text answer named k (long l) = (s, long l, k, named)
+answered_alike s t new text answer named k (syntax l none) = (s, syntax l none, k, named)
+answered_alike s t new text answer named k (refusal m form why l reads refuses leaves) =
+    (s, refusal m form why l reads (refuses-alike named k m form why refuses) refl, subst (λ x. Renamed s x) (sym leaves) k, named)
+answered_alike s t new text answer named k (done m form l reads passes does) =
+    let found = does-alike named k m form answer new passes does in
+    (found.0, done m form l reads (passes-alike named k m form passes) found.1, found.2, found.3)
 
 pub answers_alike : AnswersAlike
-answers_alike s t new text answer k (long l) = (s, long l, k)
-answers_alike s t new text answer k (syntax l none) = (s, syntax l none, k)
-answers_alike s t new text answer k (refusal m form why l reads refuses leaves) =
-    let found = leaves-alike k m form why new leaves in
-    (found.0, refusal m form why l reads (refuses-alike k m form why refuses) found.1, found.2)
-answers_alike s t new text answer k (done m form l reads passes does) =
-    let found = does-alike k m form answer new passes does in
-    (found.0, done m form l reads (passes-alike k m form passes) found.1, found.2)
+answers_alike s t new text answer all k answers =
+    let found = answered_alike s t new text answer (all_named s all) k answers in
+    (found.0, found.1, found.2)

@@ -1,12 +1,13 @@
 // The laws, for the layers above. They hold of the definitions, so that these functions do nothing.
 ghost use Rattle.graph_laws.specs.FixedNames.{AnswersAlike, RunsUnderFixedNames};
 
-/// States that differ in names alone give the same answer to a line, and differ in names alone afterwards.
+/// States that differ in names alone give the same answer to a line, and differ in names alone afterwards, where the first of them speaks only of names that
+/// have nodes.
 pub fn answers_alike()
     ensures { AnswersAlike }
 {}
 
-/// A run from a state that differs in names alone has the answers of a run under fixed names.
+/// A run from a state that differs in names alone from one that speaks only of names that have nodes has the answers of a run under fixed names from there.
 pub fn runs_under_fixed_names()
     ensures { RunsUnderFixedNames }
 {}

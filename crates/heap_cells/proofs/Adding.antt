@@ -46,10 +46,10 @@ module _ {old new : Store} {s : ℕ} {b : Body} (k : Adds old new s b) where
   moved-same = same-of is_moved refl
 
   -- a start of before is another place
-  apart : (t : ℕ) → is_start (old.cell t) ≡ true → t ≢ s
+  pub apart : (t : ℕ) → is_start (old.cell t) ≡ true → t ≢ s
   apart t on e = false≢true (sym (ap (λ u. is_start (old.cell u)) e ∙ ap is_start k.empty) ∙ on)
 
-  apart_there : (t : ℕ) → is_there (old.cell t) ≡ true → t ≢ s
+  pub apart_there : (t : ℕ) → is_there (old.cell t) ≡ true → t ≢ s
   apart_there t on = apart t (there_starts (old.cell t) on)
 
   start-kept : (t : ℕ) → is_start (old.cell t) ≡ true → is_start (new.cell t) ≡ true
@@ -64,7 +64,7 @@ module _ {old new : Store} {s : ℕ} {b : Body} (k : Adds old new s b) where
       ap (λ n. follow (λ u. is_moved (new.cell u)) (λ u. target_of (new.cell u)) n t) k.names
       ∙ follow-same (λ u. is_moved (new.cell u)) (λ u. is_moved (old.cell u)) (λ u. target_of (new.cell u)) (λ u. target_of (old.cell u)) moved-same (same-of target_of refl) old.names t
 
-  lead-same : (w : ℕ) → lead new w ≡ lead old w
+  pub lead-same : (w : ℕ) → lead new w ≡ lead old w
   lead-same w = λ x. option_map (λ t. added-final t x) (k.to x w)
 
   first_there : (j : ℕ) → j < 5 → is_there (old.cell (first old j)) ≡ true
@@ -79,7 +79,7 @@ module _ {old new : Store} {s : ℕ} {b : Body} (k : Adds old new s b) where
   tells-same : (i t : ℕ) → tells new i t ≡ tells old i t
   tells-same i t = λ x. is_at t (k.to x (root-same i x))
 
-  nil_slot-same : (i : ℕ) → is_nil_slot new i ≡ is_nil_slot old i
+  pub nil_slot-same : (i : ℕ) → is_nil_slot new i ≡ is_nil_slot old i
   nil_slot-same i = let nil = k.firsts 0 (omega arith) in λ x. is_at (nil x) (k.to x (root-same i x))
 
   pub added-internal : (t : ℕ) → is_internal new t ≡ is_internal old t
@@ -95,7 +95,7 @@ module _ {old new : Store} {s : ℕ} {b : Body} (k : Adds old new s b) where
       let outer : is_internal old s ≡ false = false_from_ne_true _ (λ on. apart s (internal-starts old (sound_loadable old k.sound) s on) refl) in
       λ x. (ap is_there added-here) x && not ((added-internal s ∙ outer) x)
 
-  ordinary-other : (t : ℕ) → t ≢ s → is_ordinary new t ≡ is_ordinary old t
+  pub ordinary-other : (t : ℕ) → t ≢ s → is_ordinary new t ≡ is_ordinary old t
   ordinary-other t n = λ x. is_there (added-other t n x) && not (added-internal t x)
 
   pub ordinary-kept : (t : ℕ) → is_ordinary old t ≡ true → is_ordinary new t ≡ true
@@ -134,10 +134,10 @@ module _ {old new : Store} {s : ℕ} {b : Body} (k : Adds old new s b) where
     | inr page ↦ and_right (not (is_nil_slot new i)) (not (is_page new i)) (not_from_true _ (page-kept i page))
   ]
 
-  has_page-same : (i : ℕ) → has_page new i ≡ has_page old i
+  pub has_page-same : (i : ℕ) → has_page new i ≡ has_page old i
   has_page-same i = λ x. ltb i class_limit && not (nil_slot-same (i / page_entries) x)
 
-  entry-same : (i : ℕ) → has_page old i ≡ true → entry new i ≡ entry old i
+  pub entry-same : (i : ℕ) → has_page old i ≡ true → entry new i ≡ entry old i
   entry-same i e =
       let parts = and_parts (ltb i class_limit) (not (is_nil_slot old (i / page_entries))) e in
       let l = place_below i (ltb-true i class_limit parts.0) in
@@ -148,7 +148,7 @@ module _ {old new : Store} {s : ℕ} {b : Body} (k : Adds old new s b) where
       let at : page_of new i ≡ page_of old i = λ x. unwrap_or (k.to x (root-same (i / page_entries) x)) (k.names x) in
       ap (λ t. get_or (body_at new t).words (i % page_entries) 0) at ∙ ap (λ c. get_or (body_of c).words (i % page_entries) 0) (added-other (page_of old i) other)
 
-  entry_lead-same : (i : ℕ) → has_page old i ≡ true → lead new (entry new i) ≡ lead old (entry old i)
+  pub entry_lead-same : (i : ℕ) → has_page old i ≡ true → lead new (entry new i) ≡ lead old (entry old i)
   entry_lead-same i e = ap (lead new) (entry-same i e) ∙ lead-same (entry old i)
 
   has_entry-same : (i t : ℕ) → has_entry new i t ≡ has_entry old i t

@@ -59,7 +59,7 @@ read-longer to words room c low fits named =
     parts ∙ cell_from-same f (start_named to words w) (start_named to new w) (slots_of words c)
     (λ m is. named-more (to w) (length words) (length new) (subst (λ n. n < length words) is (named m)))
 
-read-free : (to : ℕ → Option ℕ) (words : List ℕ) (c : Chunk) → class_of (get_or words c.start 0) ≡ 0 → read_cell to words c ≡ Empty
+pub read-free : (to : ℕ → Option ℕ) (words : List ℕ) (c : Chunk) → class_of (get_or words c.start 0) ≡ 0 → read_cell to words c ≡ Empty
 unfolding read_cell
 read-free to words c free = rw (eq-eqb (class_of (get_or words c.start 0)) 0 free) refl
 

@@ -95,9 +95,9 @@ module _ (name : ℕ → ℕ) (h : Store) (special : ℕ) (handles : FinMap hand
     named : name start ≡ a
     is : node_of name h (body_at h start) ≡ n
 
-  node_found : (a : ℕ) (n : Node) → get (nodes_of name h) a ≡ Some n → IsFound a n
+  get_there : (a : ℕ) (n : Node) → get (nodes_of name h) a ≡ Some n → IsFound a n
   unfolding nodes_of
-  node_found a n e =
+  get_there a n e =
       let m = get-member name (λ t. node_of name h (body_at h t)) a (ordinary_starts h) n e in
       record { start = m.0; ordinary = ordinary_of m.0 m.1; named = m.2; is = m.3 }
 
@@ -134,7 +134,7 @@ module _ (name : ℕ → ℕ) (h : Store) (special : ℕ) (handles : FinMap hand
   all_nodes : (a : ℕ) (n : Node) → get g.nodes a ≡ Some n → IsNode n × All (HasNode g) n.pointers
   unfolding node_of
   all_nodes a n e =
-      let f = node_found a n e in
+      let f = get_there a n e in
       let there = ordinary_there h f.start f.ordinary in
       subst (λ m. IsNode m × All (HasNode g) m.pointers) f.is (a_node name h (body_at h f.start) nil_ordinary (c.loadable.formed f.start there) (c.widths f.start there), pointers_have_nodes (pointers (body_at h f.start)))
 
@@ -142,7 +142,7 @@ module _ (name : ℕ → ℕ) (h : Store) (special : ℕ) (handles : FinMap hand
   fresh a l = elim (get g.nodes a) as (λ o. get g.nodes a ≡ o → o ≡ None) [
     | None ↦ λ e. refl
     | Some n ↦ λ e.
-        let f = node_found a n e in
+        let f = get_there a n e in
         let low : name f.start < next = c.fresh f.start (starts f.start f.ordinary) in
         absurd (omega (arith, f.named, low, l))
   ] refl

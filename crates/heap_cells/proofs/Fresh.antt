@@ -13,7 +13,8 @@ use Rattle.spur_graph.specs.Value.{is_immediate_word}
 use Rattle.object_header.specs.Chunks.{Chunk, Cuts, chunks}
 use Rattle.spur_graph.specs.Cells.{Cell, Empty, Moved, There, Store, cell_in, read_cell, first, final, lead, is_start, is_there, is_moved, target_of, pointer_count}
 use Rattle.spur_graph.specs.Ordinary.{page_places, passes, body_at, is_ordinary, is_good_reference, is_nil_slot}
-use Rattle.spur_graph.specs.CellRoom.{room_of, free_sizes, ordinary_chunks, internal_chunks, ascending}
+use Rattle.spur_graph.specs.CellRoom.{room_of, free_sizes, ordinary_chunks, internal_chunks}
+use Rattle.spur_graph.specs.FreeSizes.{ascending}
 use Rattle.spur_graph.specs.HeapRoom.{room_in, is_reached, spots_of}
 use Rattle.spur_graph.specs.Heaps.{heap_to, heap_store, row_store, own_name, is_over, names_over}
 use Rattle.heap_cells.specs.Settled.{IsLoadable, IsNamed, IsSettled, settled_word, settled_root, settled_words, settled_cell, word_of}

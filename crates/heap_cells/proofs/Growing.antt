@@ -114,7 +114,7 @@ module _ {words new : List ℕ} {limits : Limits} {p : Spaces} {c : Chunk} (k : 
       ∙ ap (λ cs. old_row words p ++ cs) (append_assoc (eden_row words p) (c ∷ []) (past_row words p))
       ∙ sym (append_assoc (old_row words p) (eden_row words p) (c ∷ past_row words p))
 
-  rows_before : rows words p ≡ front ++ past_row words p
+  pub rows_before : rows words p ≡ front ++ past_row words p
   rows_before = sym (append_assoc (old_row words p) (eden_row words p) (past_row words p))
 
   pub grown_order : InOrder new 0 (length new) (rows new (grown p c.size))

@@ -32,6 +32,12 @@ pub mod WholeClosed
 pub mod Over
 pub mod Fresh
 pub mod Adding
+pub mod OtherStarts
+pub mod Shifted
 pub mod Growing
 pub mod Splitting
 pub mod UnusedBits
+pub mod Tables
+pub mod FreeSizes
+pub mod AddedGraph
+pub mod AddedRoom

@@ -4,36 +4,13 @@ use Rattle.std.proofs.lemmas.Bool.{cases_eq, ne_eqb, eq-eqb}
 use Rattle.std.specs.List.{AllByRecursion, Contains}
 use Rattle.std.proofs.lemmas.List.Elements.{All-contains, All-from_recursion, recursion_from_All}
 use Rattle.std.proofs.lemmas.List.{get_or_default}
+use Rattle.spur_graph.specs.Names.{swapped}
+use Rattle.spur_graph.proofs.Swapping.{swapped-left, swapped-else, swapped-twice}
 
 -- numbers that lead to one another
 pub record Pairing (p q : ℕ → ℕ) : Type 0 where
   pub left : (s : ℕ) → q (p s) ≡ s
   pub right : (s : ℕ) → p (q s) ≡ s
-
--- a and b change places
-abbrev pub swapped : ℕ → ℕ → ℕ → ℕ
-swapped a b s = cond (eqb s a) b (cond (eqb s b) a s)
-
-pub swapped-left : (a b s : ℕ) → s ≡ a → swapped a b s ≡ b
-swapped-left a b s e = rw (eq-eqb s a e) refl
-
-pub swapped-right : (a b s : ℕ) → s ≡ b → swapped a b s ≡ a
-swapped-right a b s e = elim (cases_eq s a) [
-  | inl same ↦ rw (eq-eqb s a same) (sym e ∙ same)
-  | inr other ↦ rw (ne_eqb s a other, eq-eqb s b e) refl
-]
-
-pub swapped-else : (a b s : ℕ) → s ≢ a → s ≢ b → swapped a b s ≡ s
-swapped-else a b s n m = rw (ne_eqb s a n, ne_eqb s b m) refl
-
-pub swapped-twice : (a b s : ℕ) → swapped a b (swapped a b s) ≡ s
-swapped-twice a b s = elim (cases_eq s a) [
-  | inl e ↦ ap (swapped a b) (swapped-left a b s e) ∙ swapped-right a b b refl ∙ sym e
-  | inr n ↦ elim (cases_eq s b) [
-    | inl e ↦ ap (swapped a b) (swapped-right a b s e) ∙ swapped-left a b a refl ∙ sym e
-    | inr m ↦ ap (swapped a b) (swapped-else a b s n m) ∙ swapped-else a b s n m
-  ]
-]
 
 -- a pairing that takes the names of these to themselves
 pub record Extends (name : ℕ → ℕ) (starts : List ℕ) : Type 0 where

@@ -37,7 +37,24 @@ unfolding cell_in
 cell-between to words [] ms ys t none = cell-behind to words ms ys t none
 cell-between to words (x ∷ xs) ms ys t none = ap (cond (eqb x.start t) (read_cell to words x)) (cell-between to words xs ms ys t none)
 
--- only words of the chunk `f` of old space are written, and they are then the chunks `ms`
+-- a chunk stands in other words as it did
+pub record StandsAs (words new : List ℕ) (d : Chunk) : Type 0 where
+  pub keeps : KeepsChunk words new d
+  pub header : get_or new d.start 0 ≡ get_or words d.start 0
+  pub cell : read_cell heap_to new d ≡ read_cell heap_to words d
+
+-- as one does whose words are the same
+pub words_kept : (words new : List ℕ) (d : Chunk) → length new ≡ length words → IsChunk words d.at d → ((j : ℕ) → d.at ≤ j → j < d.at + d.size → get_or new j 0 ≡ get_or words j 0) → StandsAs words new d
+words_kept words new d long chunk same =
+    let l = (first words d.at d chunk).0 in
+    let h = shape words d chunk in
+    record {
+      keeps = keeps-same words new d (same d.at (omega arith) (omega (arith, l.lead, l.room))) (same d.start l.lead (omega (arith, l.room)));
+      header = same d.start l.lead (omega (arith, l.room));
+      cell = read-agree heap_to words new d long (λ j a b. same j (omega (arith, a, l.lead)) (omega (arith, b, h.size)));
+    }
+
+-- the words of the chunk `f` of old space are then the chunks `ms`, and the other chunks stand as they did
 pub record Splits (words new : List ℕ) (limits : Limits) (p : Spaces) (xs ys : List Chunk) (f : Chunk) (ms : List Chunk) : Type 0 where
   pub spaces : AreSpaces (length words) limits p
   pub rows : AreRows words p
@@ -45,7 +62,7 @@ pub record Splits (words new : List ℕ) (limits : Limits) (p : Spaces) (xs ys :
   pub is : old_row words p ≡ xs ++ f ∷ ys
   pub cut : Cuts new f.at (f.at + f.size) ms
   pub some : 1 ≤ length ms
-  pub same : (j : ℕ) → (j < f.at) ⊎ (f.at + f.size ≤ j) → get_or new j 0 ≡ get_or words j 0
+  pub same : (d : Chunk) → In (xs ++ (ys ++ young_row words p)) d → StandsAs words new d
 
 module _ {words new : List ℕ} {limits : Limits} {p : Spaces} {xs ys : List Chunk} {f : Chunk} {ms : List Chunk} (k : Splits words new limits p xs ys f ms) where
   -- the chunks behind
@@ -84,19 +101,11 @@ module _ {words new : List ℕ} {limits : Limits} {p : Spaces} {xs ys : List Chu
   pub was_in : (d : Chunk) → In (xs ++ rest) d → In (rows words p) d
   was_in d m = subst (λ cs. In cs d) (sym rows_before) (elim (in_either xs rest d m) [ inl a ↦ in_left xs (f ∷ rest) d a | inr a ↦ in_right xs (f ∷ rest) d (inr a) ])
 
-  same_words : (d : Chunk) → In (xs ++ rest) d → (j : ℕ) → d.at ≤ j → j < d.at + d.size → get_or new j 0 ≡ get_or words j 0
-  same_words d m j low high = elim (outside d m) [
-    | inl a ↦ k.same j (inl (omega (arith, a, high)))
-    | inr a ↦ k.same j (inr (omega (arith, a, low)))
-  ]
-
   keeps : (d : Chunk) → In (xs ++ rest) d → KeepsChunk words new d
-  keeps d m =
-      let s = stands words 0 (length words) (rows words p) d order (was_in d m) in
-      keeps-same words new d (same_words d m d.at (omega arith) (omega (arith, s.lies.lead, s.lies.room))) (same_words d m d.start s.lies.lead (omega (arith, s.lies.room)))
+  keeps d m = (k.same d m).keeps
 
   pub same_header : (d : Chunk) → In (xs ++ rest) d → get_or new d.start 0 ≡ get_or words d.start 0
-  same_header d m = let s = stands words 0 (length words) (rows words p) d order (was_in d m) in same_words d m d.start s.lies.lead (omega (arith, s.lies.room))
+  same_header d m = (k.same d m).header
 
   old_cut : Cuts new 0 p.old_end (xs ++ (ms ++ ys))
   old_cut = Cuts-append new 0 f.at p.old_end xs (ms ++ ys)
@@ -107,10 +116,10 @@ module _ {words new : List ℕ} {limits : Limits} {p : Spaces} {xs ys : List Chu
   pub old_more : old_row new p ≡ xs ++ (ms ++ ys)
   old_more = row-is new 0 p.old_end (xs ++ (ms ++ ys)) old_cut
 
-  eden_one : (eden_row new p ≡ eden_row words p) × Cuts new p.eden_at (p.eden_at + p.eden_used) (eden_row new p)
+  pub eden_one : (eden_row new p ≡ eden_row words p) × Cuts new p.eden_at (p.eden_at + p.eden_used) (eden_row new p)
   eden_one = one-row words new p.eden_at (p.eden_at + p.eden_used) k.rows.eden (λ d m. keeps d (in_right xs rest d (in_right ys (young_row words p) d (in_left (eden_row words p) (past_row words p) d m))))
 
-  past_one : (past_row new p ≡ past_row words p) × Cuts new p.past_at (p.past_at + p.past_used) (past_row new p)
+  pub past_one : (past_row new p ≡ past_row words p) × Cuts new p.past_at (p.past_at + p.past_used) (past_row new p)
   past_one = one-row words new p.past_at (p.past_at + p.past_used) k.rows.past (λ d m. keeps d (in_right xs rest d (in_right ys (young_row words p) d (in_right (eden_row words p) (past_row words p) d m))))
 
   pub split_young : young_row new p ≡ young_row words p
@@ -171,10 +180,7 @@ module _ {words new : List ℕ} {limits : Limits} {p : Spaces} {xs ys : List Chu
       ])
 
   read-same : (d : Chunk) → In (xs ++ rest) d → read_cell heap_to new d ≡ read_cell heap_to words d
-  read-same d m =
-      let s = stands words 0 (length words) (rows words p) d order (was_in d m) in
-      let h = shape words d s.chunk in
-      read-agree heap_to words new d k.long (λ j a b. same_words d m j (omega (arith, a, s.lies.lead)) (omega (arith, b, h.size)))
+  read-same d m = (k.same d m).cell
 
   -- outside of it each cell is as before
   pub split_other : (t : ℕ) → (t < f.at) ⊎ (f.at + f.size ≤ t) → cell_in heap_to new (rows new p) t ≡ cell_in heap_to words (rows words p) t

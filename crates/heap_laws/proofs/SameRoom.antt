@@ -16,7 +16,8 @@ use Rattle.spur_graph.specs.Step.{SameRoom}
 use Rattle.object_header.specs.Chunks.{Chunk}
 use Rattle.spur_graph.specs.Cells.{Cell, Empty, Moved, There, Store, is_there, is_start, body_of}
 use Rattle.spur_graph.specs.Ordinary.{body_at, is_ordinary, is_internal}
-use Rattle.spur_graph.specs.CellRoom.{ascending, is_free, free_sizes, ordinary_chunks, internal_chunks, spot_of, room_of}
+use Rattle.spur_graph.specs.FreeSizes.{ascending}
+use Rattle.spur_graph.specs.CellRoom.{is_free, free_sizes, ordinary_chunks, internal_chunks, spot_of, room_of}
 use Rattle.spur_graph.specs.Heaps.{own_name}
 use Rattle.heap_cells.specs.Settled.{settled_cell}
 use Rattle.heap_laws.specs.Settling.{HaveChunks, SettledIsSameRoom}

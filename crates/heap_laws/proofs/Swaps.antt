@@ -7,9 +7,10 @@ use Rattle.heap_cells.proofs.CellKinds.{there_starts}
 use Rattle.heap_cells.proofs.References.{ordinary_there}
 use Rattle.heap_laws.specs.Placed.{ArePaired}
 use Rattle.heap_laws.specs.Instances.{all_objects, moved_to}
-use Rattle.heap_laws.specs.Placing.{swapped, CopiedIsSwapped}
+use Rattle.spur_graph.specs.Names.{swapped}
+use Rattle.spur_graph.proofs.Swapping.{swapped-left, swapped-else, swapped-twice}
+use Rattle.heap_laws.specs.Placing.{CopiedIsSwapped}
 use Rattle.heap_laws.proofs.Copied.{copied_placed, start_apart}
-use Rattle.heap_cells.proofs.Pairings.{swapped-left, swapped-else, swapped-twice}
 use Rattle.heap_laws.proofs.Graphs.{whole-graph, graph-placed}
 use Rattle.heap_laws.proofs.Named.{outside-copied}
 

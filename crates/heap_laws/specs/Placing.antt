@@ -1,11 +1,11 @@
 -- The laws of moved places.
-use Rattle.std.specs.Prelude.{ℕ, ◌≡◌, ◌<◌, ◌≤◌, ◌*◌, Bool, true, List, ◌++◌, map, length, nat_eq, if◌then◌else◌, None}
+use Rattle.std.specs.Prelude.{ℕ, ◌≡◌, ◌<◌, ◌≤◌, ◌*◌, Bool, true, List, ◌++◌, map, length, if◌then◌else◌, None}
 use Rattle.std.specs.List.{All}
 use Rattle.std.specs.Ordering.{nat_cmp}
 use Rattle.std.specs.FinMap.{get, from_entries}
 use Rattle.spur_graph.specs.declared.limits.Limits.{Limits}
 use Rattle.spur_graph.specs.Graph.{Graph}
-use Rattle.spur_graph.specs.Names.{Iso}
+use Rattle.spur_graph.specs.Names.{Iso, swapped}
 use Rattle.spur_graph.specs.Room.{Space, Spot, Old, Eden, Past}
 use Rattle.spur_graph.specs.Step.{SameRoom}
 use Rattle.object_header.specs.Chunks.{Chunk}
@@ -172,10 +172,6 @@ pub record IsLeft (g : Graph) (v' : View) : Type 0 where
 abbrev pub HeapIsLeft : Type 0
 HeapIsLeft = (p : ℕ → ℕ) (keep live : ℕ → Bool) (v v' : View) (g without : Graph) (place back : ℕ → ℕ) → Iso g (heap_graph v) place back → IsWithout live g without
     → ((s : ℕ) → is_ordinary (store_of v) s ≡ true → keep s ≡ live (back s)) → v'.hash ≡ v.hash → MovesHeap p keep (store_of v) (store_of v') (outside_of v) (outside_of v') → IsLeft without v'
-
--- two numbers change places
-abbrev pub swapped : ℕ → ℕ → ℕ → ℕ
-swapped a c s = if nat_eq s a then c else if nat_eq s c then a else s
 
 -- after a copy the graph is the same with two names exchanged, one of which had no node
 abbrev pub CopiedIsSwapped : Type 0

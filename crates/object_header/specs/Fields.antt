@@ -1,5 +1,5 @@
 use Rattle.std.specs.Prelude.{ℕ}
-use Rattle.object_header.specs.Field.{field_of}
+use Rattle.object_header.specs.Field.{field_of, with_field}
 use Rattle.object_header.specs.declared.format.TheConstants.{SIXTY_FOUR_BIT_INDEXABLE_FORMAT}
 use Rattle.object_header.specs.declared.header.TheConstants.{FREE_CLASS}
 
@@ -42,3 +42,7 @@ free_fields count = record {
   readonly = 0;
   class = FREE_CLASS;
 }
+
+-- the header word of a free chunk with this slot count: the format is that of 64-bit units, and there is no other bit
+unfoldable pub free_header : ℕ → ℕ
+free_header count = with_field 0 22 (with_field 24 5 (with_field 56 8 0 count) 9) FREE_CLASS

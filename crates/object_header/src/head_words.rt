@@ -1,7 +1,7 @@
 // The head words that a chunk is written with.
 ghost use Rattle.std.specs.Prelude.{◌≡◌, ◌+◌, ◌*◌, ◌^◌, ◌<◌};
 ghost use Rattle.object_header.specs.Field.{field_of};
-ghost use Rattle.object_header.specs.Fields.{fields_of, free_fields};
+ghost use Rattle.object_header.specs.Fields.{fields_of, free_fields, free_header};
 ghost use Rattle.object_header.specs.Head.{count_of, class_of, overflow_slots_of};
 
 use crate::format::SIXTY_FOUR_BIT_INDEXABLE_FORMAT;
@@ -12,8 +12,10 @@ pub const LONGEST_SHORT: usize = 255;
 
 /// The header of a free chunk with this slot count. Its format is that of 64-bit units, for which no
 /// reader asks; all else in it is 0.
+#[tactic(auto, unfolding(crate::specs::Fields::free_header))]
 pub fn free_header(count: u64) -> Header
     requires { count < 2 ^ 8 }
+    ensures word { result.0 ≡ free_header count }
     ensures fields { fields_of result.0 ≡ free_fields count }
     ensures count { count_of result.0 ≡ count }
     ensures class { class_of result.0 ≡ FREE_CLASS }

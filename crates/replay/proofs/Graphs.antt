@@ -11,26 +11,18 @@ use Rattle.spur_graph.specs.declared.answer.Value.TheVariants.{Ref}
 use Rattle.spur_graph.specs.declared.answer.Refusal.{Refusal}
 use Rattle.spur_graph.specs.declared.answer.Refusal.TheVariants as r
 use Rattle.spur_graph.specs.Graph.{node, blank, held, bind, unbind}
-use Rattle.object_header.specs.Chunks.{Chunk}
 use Rattle.spur_graph.specs.Cells.{Store, first, is_there, cell_in, read_cell}
 use Rattle.spur_graph.specs.Ordinary.{body_at, is_ordinary, is_internal, ordinary_starts}
-use Rattle.spur_graph.specs.CellGraph.{nodes_of}
 use Rattle.spur_graph.specs.CellGraph as cells
 use Rattle.spur_graph.specs.Refusals.{test, unknown, handles}
 use Rattle.spur_graph.specs.Heaps.{View, IsWhole, chunks_of, heap_graph, heap_to, own_name}
-use Rattle.heap_cells.specs.Rows.{starts_of}
-use Rattle.heap_cells.proofs.Members.{In, listed}
-use Rattle.heap_cells.proofs.Starts.{starts-rise}
-use Rattle.spur_heap.proofs.Orders.{order}
-use Rattle.spur_heap.proofs.Puts.{whole_sound}
 use Rattle.spur_heap.specs.Views.{IsOrdinary, store, node_in}
 use Rattle.replay.specs.Sessions.{graph_of, room_of, value_in}
 use Rattle.replay.specs.Commands.{Becomes, Keeps, node_of}
 use Rattle.handle_table.proofs.Bound.{remove-absent}
 use Rattle.heap_cells.proofs.HandleValues.{get-handle_values}
 use Rattle.replay.proofs.Held.{len-handle_values, handle_values-insert, handle_values-remove}
-use Rattle.heap_cells.proofs.Members.{in_filter, filter_in}
-use Rattle.replay.proofs.Tables.{find-listed, find-absent}
+use Rattle.spur_heap.proofs.NodesAt as nodes
 
 -- handles
 pub held_value : (v : View) (k : ℕ) (h : List ℕ) (word : ℕ) → get v.handles (k, h) ≡ Some word → held (graph_of v) k h ≡ Some (value_in v word)
@@ -110,36 +102,19 @@ pub room_held : (v : View) (k : ℕ) (h : List ℕ) (o : Option ℕ) → get v.h
 room_held v k h None is some = cc
 room_held v k h (Some word) is some = rw (held_value v k h word is) refl
 
--- where something stands is a start
-stands_in : (to : ℕ → Option ℕ) (words : List ℕ) (cs : List Chunk) (s : ℕ) → is_there (cell_in to words cs s) ≡ true → In (starts_of cs) s
-unfolding cell_in
-stands_in to words [] s there = absurd (false≢true there)
-stands_in to words (c ∷ cs) s there = elim (cases_Bool (nat_eq c.start s)) [
-  | inl same ↦ inl (eqb-true c.start s same)
-  | inr other ↦ inr (stands_in to words cs s (sym (ap (λ b. is_there (cond b (read_cell to words c) (cell_in to words cs s))) other) ∙ there))
-]
-
 -- names behind the last word are fresh
 pub names_fresh : (v : View) → IsWhole v → (a : ℕ) → (graph_of v).next ≤ a → get (graph_of v).nodes a ≡ None
-unfolding graph_of nodes_of ordinary_starts
-names_fresh v w a past =
-    let h : Store = store v in
-    let below = (starts-rise v.words (length v.words) (chunks_of v) (order v (whole_sound v w))).below in
-    get-from_entries nat_cmp_total (map (λ s. (s, cells.node_of own_name h (body_at h s))) (ordinary_starts h)) a
-    ∙ find-absent (λ s. cells.node_of own_name h (body_at h s)) (ordinary_starts h) a (λ m.
-    let among = listed h.starts a (filter_in (is_ordinary h) h.starts a m).0 in
-    let low : get_or h.starts among.0 a < length v.words = below among.0 a among.1 in
-    omega (arith, low, among.2, past))
+unfolding graph_of
+names_fresh v w a past = nodes.names_fresh v w a past
 
 -- the node of an object
+pub get_there : (v : View) (s : ℕ) → IsOrdinary v s → get (graph_of v).nodes s ≡ Some (node_in v s)
+unfolding graph_of
+get_there v s there = nodes.get_there v s there
+
 pub node_there : (v : View) (s : ℕ) → IsOrdinary v s → node (graph_of v) s ≡ node_in v s
-unfolding graph_of nodes_of ordinary_starts
-node_there v s there =
-    let h : Store = store v in
-    let inside : In h.starts s = stands_in heap_to v.words (chunks_of v) s (and_parts (is_there (h.cell s)) (not (is_internal h s)) there).0 in
-    ap (λ o. unwrap_or o blank)
-    (get-from_entries nat_cmp_total (map (λ t. (t, cells.node_of own_name h (body_at h t))) (ordinary_starts h)) s
-    ∙ find-listed (λ t. cells.node_of own_name h (body_at h t)) (ordinary_starts h) s (in_filter (is_ordinary h) h.starts s inside there))
+unfolding graph_of
+node_there v s there = nodes.node_there v s there
 
 pub node_named : (v : View) (s : ℕ) (x : Value) → IsOrdinary v s → x ≡ Ref s → node_of (graph_of v) x ≡ node_in v s
 node_named v s x there is = ap (node_of (graph_of v)) is ∙ node_there v s there

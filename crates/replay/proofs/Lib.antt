@@ -1,11 +1,12 @@
 pub mod Held
-pub mod Tables
 pub mod Leads
 pub mod Graphs
+pub mod RoomNames
 pub mod Values
 pub mod Rows
 pub mod Doing
 pub mod Steps
+pub mod Made
 pub mod ScriptLines
 pub mod Answering
 pub mod Scripts

@@ -21,7 +21,7 @@ use Rattle.replay.specs.Commands.{AreAlike, IsOver, Replies, Steps, Keeps, First
 use Rattle.replay.proofs.Graphs.{names_fresh}
 
 -- a state is itself under its own names
-unrenamed : (s : State) → Iso s.graph s.graph (λ a. a) (λ a. a) → ((a : ℕ) → s.graph.next ≤ a → get s.graph.nodes a ≡ None) → Renamed s s
+pub unrenamed : (s : State) → Iso s.graph s.graph (λ a. a) (λ a. a) → ((a : ℕ) → s.graph.next ≤ a → get s.graph.nodes a ≡ None) → Renamed s s
 unrenamed s same fresh = record {
   p = λ a. a;
   back = λ a. a;
@@ -38,7 +38,7 @@ renamed s t (inl one) same fresh = subst (λ (u : State). Renamed u t) (sym one)
 renamed s t (inr names) same fresh = names
 
 -- the state over a heap that is made of another
-over_is : (v : View) (s : State) → IsOver v s (over v s)
+pub over_is : (v : View) (s : State) → IsOver v s (over v s)
 over_is v s = record { heap = refl; same_files = refl; same_script = refl }
 
 -- what is done under the same names

@@ -21,7 +21,7 @@ use Rattle.heap_cells.proofs.Both.{immediate_stays}
 use Rattle.spur_heap.specs.Views.{IsGood, store, follows}
 use Rattle.replay.specs.Sessions.{value_in}
 use Rattle.replay.specs.Commands.{IsReference}
-use Rattle.replay.proofs.Leads.{reference_leads, good_reference}
+use Rattle.spur_heap.proofs.Leads.{reference_leads, good_reference}
 
 pub not_eqb : (a b : ℕ) → a ≢ b → (a == b) ≡ false
 not_eqb a b apart = elim (a == b) as (λ v. (a == b) ≡ v → v ≡ false) [ true ↦ λ e. absurd (apart (eqb-true a b e)) | false ↦ λ e. refl ] refl

@@ -10,7 +10,7 @@ use Rattle.spur_graph.specs.Bytes.{Text}
 use Rattle.spur_graph.specs.Value.{named_by, is_immediate}
 use Rattle.spur_graph.specs.Node.{Node}
 use Rattle.spur_graph.specs.Graph.{Graph, node}
-use Rattle.spur_graph.specs.Form.{Form}
+use Rattle.spur_graph.specs.Form.{Form, New, NewOld}
 use Rattle.spur_graph.specs.State.{State}
 use Rattle.spur_graph.specs.Refusals.{Row, test, handles, raw_read, raw_write, raw_unit, index_in}
 use Rattle.spur_graph.specs.Refused.{refused}
@@ -20,6 +20,8 @@ use Rattle.spur_graph.specs.Heaps.{View}
 use Rattle.object_header.specs.Formats.{is_method}
 use Rattle.spur_graph.specs.Ordinary.{is_good_reference}
 use Rattle.spur_heap.specs.Views.{IsOrdinary, node_in, store}
+use Rattle.spur_heap.specs.declared.allocation.Space.{Space}
+use Rattle.spur_heap.specs.declared.allocation.Space.TheVariants as spaces
 use Rattle.immediates.specs.declared.word_kind.Range.{Range}
 use Rattle.replay.specs.Sessions.{graph_of, room_of, value_in, over, StandsFor}
 
@@ -114,3 +116,8 @@ pub record IsUnitOf (v : View) (word i start at : ℕ) : Type 0 where
   pub named : Names v word start
   pub index : at ≡ i
   pub within : at < length (node_in v start).units
+
+-- the command that makes an instance, in new space or old, or in old space alone
+abbrev pub asked : Space → Text → Text → ℕ → Form
+asked spaces.Any h c n = New h c n
+asked spaces.Old h c n = NewOld h c n

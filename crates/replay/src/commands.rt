@@ -10,12 +10,13 @@ ghost use Rattle.replay.specs.Commands.{FirstRefusal, Obeys, ObeysExactly, Becom
 ghost use Rattle.replay.specs.Sessions.{graph_of, value_in};
 
 use crate::handles::{bind, held, room_for, unbind};
+use crate::making::{enter_class, hash, make, stat};
 use crate::objects::{
     class, is_same, shown, size, slot, slot_place, unit_place, unit_value, writable,
 };
 use immediates::{Range, character, float_bits, small_int};
 use spur_graph::{Answer, Command, HandleName, Refusal};
-use spur_heap::Heap;
+use spur_heap::{Heap, Space};
 
 /// Binds a handle to a word that is at hand.
 fn bind_word(heap: &mut Heap, mutator: u8, h: &HandleName, word: u64) -> Result<Answer, Refusal>
@@ -191,11 +192,12 @@ pub(crate) fn obey(heap: &mut Heap, mutator: u8, command: &Command) -> Result<An
             let second = held(heap, mutator, b)?;
             Ok(Answer::Truth(is_same(heap, first, second)))
         }
-        Command::Hash { .. }
-        | Command::New { .. }
-        | Command::NewOld { .. }
-        | Command::Enter { .. }
-        | Command::Become { .. }
+        Command::New { h, c, n } => make(heap, mutator, Space::Any, h, c, *n),
+        Command::NewOld { h, c, n } => make(heap, mutator, Space::Old, h, c, *n),
+        Command::Enter { c } => enter_class(heap, mutator, c),
+        Command::Hash { o } => hash(heap, mutator, o),
+        Command::Stat => Ok(stat(heap, mutator)),
+        Command::Become { .. }
         | Command::Forward { .. }
         | Command::Pin { .. }
         | Command::Unpin { .. }
@@ -206,7 +208,6 @@ pub(crate) fn obey(heap: &mut Heap, mutator: u8, command: &Command) -> Result<An
         | Command::Mourn { .. }
         | Command::SegStore { .. }
         | Command::SegLoad { .. }
-        | Command::Save { .. }
-        | Command::Stat => Err(Refusal::Unsupported),
+        | Command::Save { .. } => Err(Refusal::Unsupported),
     }
 }

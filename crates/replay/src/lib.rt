@@ -10,6 +10,7 @@
 mod commands;
 mod handles;
 mod lines;
+mod making;
 mod objects;
 mod runs;
 mod session;

@@ -13,6 +13,7 @@ mod handles;
 mod images;
 mod kept;
 mod lines;
+mod making;
 mod options;
 mod sessions;
 mod slots;

@@ -1,6 +1,8 @@
 pub mod Holding
 pub mod Renaming
+pub mod Swapping
 pub mod BaseImages
 pub mod Scripts
+pub mod Serving
 pub mod HandleMaps
 pub mod RowNumbers

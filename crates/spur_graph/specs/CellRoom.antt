@@ -5,19 +5,10 @@ use Rattle.std.specs.FinMap.{from_entries}
 use Rattle.std.specs.FinSet as sets
 use Rattle.spur_graph.specs.declared.limits.Limits.{Limits}
 use Rattle.spur_graph.specs.Room.{Room, Spot, Old}
+use Rattle.spur_graph.specs.FreeSizes.{ascending}
 use Rattle.object_header.specs.Chunks.{Chunk}
 use Rattle.spur_graph.specs.Cells.{Store, is_start}
 use Rattle.spur_graph.specs.Ordinary.{is_ordinary, is_internal, is_nil_slot, body_at, page_places}
-
--- a size among others that ascend
-unfoldable pub among : ℕ → List ℕ → List ℕ
-among n [] = n ∷ []
-among n (m ∷ sizes) = if nat_le n m then n ∷ m ∷ sizes else m ∷ among n sizes
-
--- sizes in ascending order
-unfoldable pub ascending : List ℕ → List ℕ
-ascending [] = []
-ascending (n ∷ sizes) = among n (ascending sizes)
 
 -- the room as sizes of free chunks: no words are no chunk
 abbrev pub room_sizes : ℕ → List ℕ

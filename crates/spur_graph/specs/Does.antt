@@ -1,13 +1,21 @@
 -- What a command answers and how it changes the state, where nothing refuses it.
-use Rattle.std.specs.Prelude.{◌≡◌, ◌⊎◌, ℕ, length, slice_index, slice_index_or, slice_set, Option, Some, None}
+use Rattle.std.specs.Prelude.{◌≡◌, ◌⊎◌, ℕ, ◌/◌, if◌then◌else◌, length, slice_index, slice_index_or, slice_set, Option, Some, None}
+use Rattle.std.specs.Option.{option_map}
+use Rattle.std.specs.FinSet.{contains}
 use Rattle.spur_graph.specs.declared.answer.Value.TheVariants.{Ref}
 use Rattle.spur_graph.specs.declared.answer.Value.TheVariants as values
 use Rattle.spur_graph.specs.declared.answer.Answer.{Answer}
 use Rattle.spur_graph.specs.declared.answer.Answer.TheVariants as answers
-use Rattle.spur_graph.specs.Form.{Form, Special, Nil, Yes, No, Int, Char, Float, Copy, Drop, Kind, Class, Size, Fetch, Store, Unit, SetUnit, Same}
+use Rattle.spur_graph.specs.Bytes.{Text}
+use Rattle.spur_graph.specs.Form.{Form, Special, Nil, Yes, No, Int, Char, Float, Copy, Drop, Kind, Class, Size, Fetch, Store, Unit, SetUnit, Same, New, NewOld, Enter, Hash, Stat}
 use Rattle.spur_graph.specs.Value.{same_value}
-use Rattle.spur_graph.specs.State.{State, bound, dropped, with_changed, value_at, name_at, node_of_handle}
-use Rattle.spur_graph.specs.Shows.{shown}
+use Rattle.spur_graph.specs.State.{State, with_graph, bound, dropped, with_changed, made, value_at, name_at, node_of_handle, slots_asked, words_asked}
+use Rattle.spur_graph.specs.Room.{Room, page_words, with_page}
+use Rattle.spur_graph.specs.Serve.{Served, Anywhere, OldAlone, serve}
+use Rattle.spur_graph.specs.Instances.{instance}
+use Rattle.spur_graph.specs.Hashes.{hash_now, hashed, free_index, entered}
+use Rattle.spur_graph.specs.Ordinary.{page_entries}
+use Rattle.spur_graph.specs.Shows.{shown, stat_of}
 use Rattle.spur_graph.specs.Classes.{class_value}
 
 -- an answer and the state after it
@@ -17,6 +25,16 @@ Outcome = Answer × State
 -- `ok`
 abbrev pub ok : State → Outcome
 ok new = (answers.Done, new)
+
+-- the state with a handle bound to a fresh instance of a class, whose words were served
+abbrev pub new_instance : State → ℕ → Text → Text → ℕ → Served → State
+new_instance s k h c n served = made s k h (instance s.graph (node_of_handle s.graph k c) n) (slots_asked s.graph k c n) served
+
+-- the room once a class is entered at an index, if its page is there or is served
+abbrev pub room_entered : Room → ℕ → Option Room
+room_entered room i =
+    if contains room.pages (i / page_entries) then Some room
+    else option_map (λ served. with_page served.room (i / page_entries)) (serve OldAlone room page_words)
 
 -- what a command answers and does where the state determines both; a command that chooses among several has no outcome here, nor has one that is not served
 abbrev pub outcome : State → ℕ → Form → Option Outcome
@@ -37,6 +55,11 @@ outcome s k (Store o i v) = Some (ok (with_changed s (name_at s.graph k o) (λ n
 outcome s k (Unit o i) = Some (answers.Number (slice_index (node_of_handle s.graph k o).units i), s)
 outcome s k (SetUnit o i u) = Some (ok (with_changed s (name_at s.graph k o) (λ n. record n { units = slice_set n.units i u })))
 outcome s k (Same a b) = Some (answers.Truth (same_value (value_at s.graph k a) (value_at s.graph k b)), s)
+outcome s k (New h c n) = option_map (λ served. ok (new_instance s k h c n served)) (serve Anywhere s.room (words_asked s.graph k c n))
+outcome s k (NewOld h c n) = option_map (λ served. ok (new_instance s k h c n served)) (serve OldAlone s.room (words_asked s.graph k c n))
+outcome s k (Enter c) = option_map (λ room. (answers.Number (free_index s.graph), record s { graph = entered s.graph (name_at s.graph k c) (free_index s.graph); room = room })) (room_entered s.room (free_index s.graph))
+outcome s k (Hash o) = Some (answers.Number (hash_now s.graph (name_at s.graph k o)), with_graph s (hashed s.graph (name_at s.graph k o)))
+outcome s k Stat = Some (answers.Stat (stat_of s.graph s.room), s)
 outcome s k form = None
 
 -- a determined outcome is this one

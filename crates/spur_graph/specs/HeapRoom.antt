@@ -8,7 +8,8 @@ use Rattle.spur_graph.specs.Room.{Room, Space, Spot, Old, Eden, Past}
 use Rattle.object_header.specs.Chunks.{Chunk}
 use Rattle.spur_graph.specs.Cells.{Store, is_start, final}
 use Rattle.spur_graph.specs.Ordinary.{is_nil_slot, body_at, page_places}
-use Rattle.spur_graph.specs.CellRoom.{ascending, free_sizes, ordinary_chunks, internal_chunks}
+use Rattle.spur_graph.specs.FreeSizes.{ascending}
+use Rattle.spur_graph.specs.CellRoom.{free_sizes, ordinary_chunks, internal_chunks}
 
 -- where an object stands, with its words
 abbrev pub spot_in : Space → Chunk → Spot

@@ -3,7 +3,9 @@ pub mod Node
 pub mod Graph
 pub mod Handles
 pub mod Names
+pub mod FreeSizes
 pub mod Room
+pub mod Serve
 pub mod Segments
 pub mod Chains
 pub mod Cells
@@ -27,6 +29,8 @@ pub mod Refusals
 pub mod Refused
 pub mod Shows
 pub mod Classes
+pub mod Instances
+pub mod Hashes
 pub mod Does
 pub mod Step
 pub mod Bytes

@@ -1,5 +1,5 @@
 -- Names stand for one another: renaming, and graphs that differ in names alone.
-use Rattle.std.specs.Prelude.{◌≡◌, ℕ, map}
+use Rattle.std.specs.Prelude.{◌≡◌, ℕ, map, if◌then◌else◌, nat_eq}
 use Rattle.std.specs.Option.{option_map}
 use Rattle.std.specs.FinMap.{get}
 use Rattle.spur_graph.specs.declared.answer.Value.{Value}
@@ -31,3 +31,7 @@ pub record Iso (G H : Graph) (p back : ℕ → ℕ) : Type 0 where
   pub handles : (h : Handle) → get H.handles h ≡ option_map (rename p) (get G.handles h)
   pub mourners : H.mourners ≡ map (map p) G.mourners
   pub hash_state : H.hash_state ≡ G.hash_state
+
+-- the names `a` and `b` change places
+abbrev pub swapped : ℕ → ℕ → ℕ → ℕ
+swapped a b c = if nat_eq c a then b else if nat_eq c b then a else c

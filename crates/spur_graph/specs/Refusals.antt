@@ -1,8 +1,9 @@
 -- The conditions of refusals.
-use Rattle.std.specs.Prelude.{ℕ, ◌*◌, ◌%◌, ◌^◌, ℤ, pos, negsuc, List, [], ◌∷◌, length, Bool, not, if◌then◌else◌, ◌==◌, ◌&&◌, ◌||◌, nat_le, nat_lt, Option, Some, None}
+use Rattle.std.specs.Prelude.{ℕ, ◌*◌, ◌/◌, ◌%◌, ◌^◌, ℤ, pos, negsuc, List, [], ◌∷◌, length, Bool, not, if◌then◌else◌, ◌==◌, ◌&&◌, ◌||◌, nat_eq, nat_le, nat_lt, Option, Some, None}
 use Rattle.std.specs.Option.{is_none}
 use Rattle.std.specs.List.{list_any}
 use Rattle.std.specs.FinMap.{len}
+use Rattle.std.specs.FinSet.{contains}
 use Rattle.object_header.specs.Formats.{unit_bytes_of, is_method}
 use Rattle.spur_graph.specs.declared.answer.Refusal.{Refusal}
 use Rattle.spur_graph.specs.declared.answer.Refusal.TheVariants as r
@@ -10,7 +11,12 @@ use Rattle.spur_graph.specs.Value.{is_immediate}
 use Rattle.spur_graph.specs.Node.{Node, is_raw}
 use Rattle.spur_graph.specs.Graph.{Graph, held}
 use Rattle.spur_graph.specs.Bytes.{Text}
-use Rattle.spur_graph.specs.State.{value_at, node_of_handle}
+use Rattle.spur_graph.specs.State.{value_at, name_at, node_of_handle}
+use Rattle.spur_graph.specs.Room.{Room, page_words}
+use Rattle.spur_graph.specs.Serve.{Source, OldAlone, serve, full_of}
+use Rattle.spur_graph.specs.Instances.{has_instances, layout_in, is_size}
+use Rattle.spur_graph.specs.Hashes.{free_index}
+use Rattle.spur_graph.specs.Ordinary.{page_entries, class_limit}
 
 -- a refusal where its condition holds
 abbrev pub test : Bool → Refusal → Option Refusal
@@ -82,3 +88,35 @@ char_range n = test (nat_le (2 ^ 30) n) r.Range
 -- the word is not that of a SmallFloat
 abbrev pub float_range : ℕ → Option Refusal
 float_range word = test (not (word % 8 == 4)) r.Range
+
+-- the object is nil, false or true
+abbrev pub is_special : Graph → ℕ → Bool
+is_special g a = nat_eq a g.nil || nat_eq a g.no || nat_eq a g.yes
+
+-- an object that the command may not change so is nil, false or true
+abbrev pub special : Graph → ℕ → List Text → Option Refusal
+special g k names = test (list_any (λ h. is_special g (name_at g k h)) names) r.Special
+
+-- no entered class, or none whose slot 2 says what its instances are
+abbrev pub no_class : Graph → ℕ → Option Refusal
+no_class g a = test (not (has_instances g a)) r.Class
+
+-- no instance of the class can have the size
+abbrev pub no_size : Node → ℕ → Option Refusal
+no_size c n = test (not (is_size (layout_in c) n)) r.Size
+
+-- nothing serves a need of so many words
+abbrev pub unserved : Source → Room → ℕ → Option Refusal
+unserved source room n = test (is_none (serve source room n)) (r.Full (full_of source room n))
+
+-- an object that has a hash already can't be entered at another index
+abbrev pub has_hash : Node → Option Refusal
+has_hash c = test (not (nat_eq c.hash 0)) r.Hashed
+
+-- each index of the class table has an entry
+abbrev pub no_index : Graph → Option Refusal
+no_index g = test (nat_le class_limit (free_index g)) r.Table
+
+-- the index has no page, and nothing serves it one
+abbrev pub no_page : Room → ℕ → Option Refusal
+no_page room i = if contains room.pages (i / page_entries) then None else unserved OldAlone room page_words

@@ -4,13 +4,21 @@ use Rattle.spur_graph.specs.declared.answer.Refusal.{Refusal}
 use Rattle.spur_graph.specs.declared.answer.Refusal.TheVariants as r
 use Rattle.spur_graph.specs.Graph.{Graph}
 use Rattle.spur_graph.specs.Bytes.{Text}
-use Rattle.spur_graph.specs.Form.{Form, Special, Nil, Yes, No, Int, Char, Float, Copy, Drop, Kind, Class, Size, Fetch, Store, Unit, SetUnit, Same}
-use Rattle.spur_graph.specs.State.{State, node_of_handle}
-use Rattle.spur_graph.specs.Refusals.{Row, first, unknown, handles, immediate, raw_read, raw_write, raw_unit, index_in, readonly, unit_range, int_range, char_range, float_range}
+use Rattle.spur_graph.specs.Form.{Form, Special, Nil, Yes, No, Int, Char, Float, Copy, Drop, Kind, Class, Size, Fetch, Store, Unit, SetUnit, Same, New, NewOld, Enter, Hash, Stat}
+use Rattle.spur_graph.specs.State.{State, name_at, node_of_handle, words_asked}
+use Rattle.spur_graph.specs.Serve.{Source, Anywhere, OldAlone}
+use Rattle.spur_graph.specs.Hashes.{free_index}
+use Rattle.spur_graph.specs.Refusals.{Row, first, unknown, handles, immediate, raw_read, raw_write, raw_unit, index_in, readonly, unit_range, int_range, char_range, float_range, special, no_class, no_size, unserved, has_hash, no_index, no_page}
 
 -- of a command that binds `h` and reads these handles
 abbrev pub binds : Graph → ℕ → Text → List Text → Row → Row
 binds g k h names row = unknown g k names ∷ handles g k h ∷ row
+
+-- the refusals of making an instance of this size, in their order
+abbrev pub instance_row : State → ℕ → Text → ℕ → Source → Row
+instance_row s k c n source =
+    immediate s.graph k (c ∷ []) ∷ no_class s.graph (name_at s.graph k c) ∷ no_size (node_of_handle s.graph k c) n
+    ∷ unserved source s.room (words_asked s.graph k c n) ∷ []
 
 -- each command's refusals in their order; a command that is not served is refused as such
 abbrev pub row : State → ℕ → Form → Row
@@ -36,6 +44,13 @@ row s k (SetUnit o i n) =
     unknown s.graph k (o ∷ []) ∷ immediate s.graph k (o ∷ []) ∷ raw_unit (node_of_handle s.graph k o) ∷ index_in (node_of_handle s.graph k o).units i
     ∷ unit_range (node_of_handle s.graph k o) n ∷ readonly s.graph k (o ∷ []) ∷ []
 row s k (Same a b) = unknown s.graph k (a ∷ b ∷ []) ∷ []
+row s k (New h c n) = binds s.graph k h (c ∷ []) (instance_row s k c n Anywhere)
+row s k (NewOld h c n) = binds s.graph k h (c ∷ []) (instance_row s k c n OldAlone)
+row s k (Enter c) =
+    unknown s.graph k (c ∷ []) ∷ immediate s.graph k (c ∷ []) ∷ special s.graph k (c ∷ []) ∷ has_hash (node_of_handle s.graph k c)
+    ∷ no_index s.graph ∷ no_page s.room (free_index s.graph) ∷ []
+row s k (Hash o) = unknown s.graph k (o ∷ []) ∷ immediate s.graph k (o ∷ []) ∷ []
+row s k Stat = []
 row s k form = Some r.Unsupported ∷ []
 
 -- the refusal of a command

@@ -1,7 +1,7 @@
 -- The room of a heap: how many words each space has and uses, and where each name stands. It has no places and no order of objects.
-use Rattle.std.specs.Prelude.{ℕ, List, [], Bool}
+use Rattle.std.specs.Prelude.{ℕ, ◌+◌, max, List, [], Bool, true, false, if◌then◌else◌, nat_lt}
 use Rattle.std.specs.Ordering.{nat_cmp}
-use Rattle.std.specs.FinMap.{FinMap, empty}
+use Rattle.std.specs.FinMap.{FinMap, empty, insert}
 use Rattle.std.specs.FinSet.{FinSet}
 use Rattle.std.specs.FinSet as sets
 
@@ -48,3 +48,37 @@ no_room = record {
   internal_pinned = 0;
   pages = sets.empty;
 }
+
+-- ---- fresh objects
+
+-- an object of so many slots has an overflow word if it is made here
+abbrev pub is_long : ℕ → Bool
+is_long slots = nat_lt 254 slots
+
+-- the words of an object of so many slots that is made here: it has at least one behind its header
+abbrev pub fresh_words : ℕ → ℕ
+fresh_words slots = if is_long slots then 2 + slots else 1 + max 1 slots
+
+-- where such an object stands in a space
+abbrev pub fresh_spot : Space → ℕ → Spot
+fresh_spot space slots = record { space = space; words = fresh_words slots; overflow = is_long slots }
+
+abbrev pub is_old : Space → Bool
+is_old Old = true
+is_old Eden = false
+is_old Past = false
+
+-- a name stands there, and is an old name if that is in old space
+abbrev pub placed : Room → ℕ → Spot → Room
+placed room a spot = record room {
+  spots = insert room.spots a spot;
+  old_names = if is_old spot.space then sets.insert room.old_names a else room.old_names;
+}
+
+-- the words of a page of the class table
+abbrev pub page_words : ℕ
+page_words = 1026
+
+-- a page of the class table stands in words of old space, and is none of the names
+abbrev pub with_page : Room → ℕ → Room
+with_page room page = record room { internal_words = room.internal_words + page_words; pages = sets.insert room.pages page }

@@ -1,5 +1,5 @@
 -- The state of the machine, and how handles are read in it.
-use Rattle.std.specs.Prelude.{ℕ, List}
+use Rattle.std.specs.Prelude.{ℕ, ◌+◌, List}
 use Rattle.std.specs.Option.{unwrap_or}
 use Rattle.spur_graph.specs.declared.answer.Value.{Value}
 use Rattle.spur_graph.specs.declared.answer.Value.TheVariants.{Ref}
@@ -7,7 +7,9 @@ use Rattle.spur_graph.specs.Value.{named_by}
 use Rattle.spur_graph.specs.Node.{Node}
 use Rattle.spur_graph.specs.Graph.{Graph, node, with_node, held, bind, unbind}
 use Rattle.spur_graph.specs.Bytes.{Text}
-use Rattle.spur_graph.specs.Room.{Room}
+use Rattle.spur_graph.specs.Room.{Room, placed, fresh_spot, fresh_words}
+use Rattle.spur_graph.specs.Serve.{Served}
+use Rattle.spur_graph.specs.Instances.{layout_in, slots_for}
 
 -- the bytes of each file, none where there is no such file
 abbrev pub Files : Type 0
@@ -47,3 +49,19 @@ dropped s k h = with_graph s (unbind s.graph k h)
 -- the state with the node of a name changed
 abbrev pub with_changed : State → ℕ → (Node → Node) → State
 with_changed s a f = with_graph s (with_node s.graph a (f (node s.graph a)))
+
+-- the slots of an instance of a handle's class that has this size, and its words
+abbrev pub slots_asked : Graph → ℕ → Text → ℕ → ℕ
+slots_asked g k c n = slots_for (layout_in (node_of_handle g k c)) n
+
+abbrev pub words_asked : Graph → ℕ → Text → ℕ → ℕ
+words_asked g k c n = fresh_words (slots_asked g k c n)
+
+-- the next name, which is fresh, has this node
+abbrev pub with_fresh : Graph → Node → Graph
+with_fresh g n = record (with_node g g.next n) { next = g.next + 1 }
+
+-- a handle is bound to a fresh object with this node and so many slots, which stands where its words were served
+abbrev pub made : State → ℕ → Text → Node → ℕ → Served → State
+made s k h n slots served =
+    bound (record s { graph = with_fresh s.graph n; room = placed served.room s.graph.next (fresh_spot served.space slots) }) k h (Ref s.graph.next)

@@ -1,5 +1,6 @@
 -- Values, and the tagged words that stand for them.
 use Rattle.std.specs.Prelude.{◌<◌, ◌≤ℤ◌, ◌<ℤ◌, ℕ, ◌-◌, ◌/◌, ◌%◌, ◌^◌, ℤ, pos, neg_ℤ, negsuc, ◌≡◌, Bool, true, false, if◌then◌else◌, ◌==◌, ◌&&◌, ◌||◌, nat_lt, Option, Some, None}
+use Rattle.std.specs.Option.{unwrap_or}
 use Rattle.spur_graph.specs.declared.answer.Value.{Value}
 use Rattle.spur_graph.specs.declared.answer.Value.TheVariants.{Int, Char, Float, Ref}
 
@@ -16,6 +17,10 @@ named_by (Int n) = None
 named_by (Char c) = None
 named_by (Float w) = None
 named_by (Ref a) = Some a
+
+-- the name that a reference names; an immediate is refused before this is asked
+abbrev pub name_of : Value → ℕ
+name_of v = unwrap_or (named_by v) 0
 
 -- an immediate is a value that names nothing
 abbrev pub is_immediate : Value → Bool

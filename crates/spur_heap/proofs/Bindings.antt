@@ -33,6 +33,8 @@ module _ (p : HeapParts) (k : ArePartsOfHeap p) where
       few = k.whole.few;
     };
     map = record { starts = k.map.starts; covers = k.map.covers };
+    free_chunks = record { lists = k.free_chunks.lists };
+    objects = record { count = k.objects.count };
   }
 
   good_bound : (h : Handle) (word : ℕ) → IsGood (view_of p) word → AreGood p (insert p.handles h word)

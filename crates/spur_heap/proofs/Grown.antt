@@ -18,7 +18,7 @@ use Rattle.spur_heap.specs.Words.{starts_at}
 use Rattle.spur_heap.proofs.Touched.{same_bit}
 
 -- words behind the used eden are a new object, whose slots are good, and which is neither remembered nor pinned
-pub record Makes (v : View) (new : List ℕ) (c : Chunk) (b : Body) : Type 0 where
+pub record IsMade (v : View) (new : List ℕ) (c : Chunk) (b : Body) : Type 0 where
   pub grows : Grows v.words new v.limits v.spaces c
   pub there : read_cell heap_to new c ≡ There b
   pub formed : is_formed b ≡ true
@@ -27,7 +27,7 @@ pub record Makes (v : View) (new : List ℕ) (c : Chunk) (b : Body) : Type 0 whe
   pub forgotten : is_remembered new c.start ≡ false
   pub mobile : b.pinned ≡ 0
 
-module _ (v : View) (new : List ℕ) (c : Chunk) (b : Body) (k : Makes v new c b) (whole : IsWhole v) where
+module _ (v : View) (new : List ℕ) (c : Chunk) (b : Body) (k : IsMade v new c b) (whole : IsWhole v) where
   abbrev pub made : View
   made = record v { words = new; spaces = grown v.spaces c.size }
 
@@ -39,7 +39,7 @@ module _ (v : View) (new : List ℕ) (c : Chunk) (b : Body) (k : Makes v new c b
   behind_old = let e = k.grows.spaces.eden_behind in omega (arith, lies.after, lies.lead, e)
 
   -- nothing stood there
-  apart : (d : Chunk) → In (chunks_of v) d → d.start ≢ c.start
+  pub apart : (d : Chunk) → In (chunks_of v) d → d.start ≢ c.start
   apart d m e =
       let s = stands v.words 0 (length v.words) (chunks_of v) d (order k.grows) m in
       elim (outside k.grows d m) [

@@ -14,17 +14,16 @@ use Rattle.spur_graph.specs.Ordinary.{is_ordinary}
 use Rattle.heap_cells.proofs.Bodies.{method_some}
 use Rattle.heap_cells.proofs.References.{ordinary_there}
 use Rattle.heap_cells.proofs.ObjectReads.{object-body, object-word, object-inside}
-use Rattle.spur_heap.specs.declared.heap.HeapParts.{HeapParts}
-use Rattle.spur_heap.specs.Parts.{view_of, ArePartsOfHeap}
 use Rattle.spur_heap.specs.Remembering.{after}
 use Rattle.spur_heap.proofs.Orders.{order}
 use Rattle.spur_heap.specs.Sizes.{IsSize}
-use Rattle.spur_heap.specs.Words.{AreSound, starts_at, is_object, is_good, body_in, unit_bytes_in, unit_place, unit_word}
+use Rattle.spur_heap.specs.Words.{AreSound, is_object, is_good, body_in, unit_bytes_in, unit_place, unit_word}
 use Rattle.spur_heap.specs.Views.{IsOrdinary, IsGood, node_in}
 use Rattle.spur_heap.proofs.UnitRows.{UnitAt}
 use Rattle.spur_heap.proofs.SlotCounts.{at_start, formed, pointers_within, unit_at_place}
 use Rattle.spur_heap.proofs.Nodes.{HasFields, node_fields, node_units, node_unit, node_pointers, node_pointer, node_with_pointer, node_with_unit}
-use Rattle.spur_heap.proofs.Written.{Write, HasBitFor, body_then, then, whole_written, starts_kept, ordinary_kept, good_kept, value_kept, graph_written, room_kept, slot_good, like}
+use Rattle.spur_heap.proofs.Tables.{SameTables}
+use Rattle.spur_heap.proofs.Written.{Write, HasBitFor, body_then, then, whole_written, tables_written, ordinary_kept, good_kept, value_kept, graph_written, room_kept, slot_good, like}
 
 pub whole_sound : (v : View) → IsWhole v → AreSound v
 whole_sound v whole = record { spaces = whole.spaces; rows = whole.rows; sound = whole.sound; few = whole.few }
@@ -140,8 +139,8 @@ module _ (v : View) (whole : IsWhole v) (s : ℕ) (there : IsOrdinary v s) where
     pub unit_whole : (value : ℕ) → IsWhole (unit_put value)
     unit_whole value = subst (λ (u : View). IsWhole u) (sym (unit_then value)) (whole_written v s slot (unit_word v s i value) (unit_write value) (unit_bit value) whole)
 
-    pub unit_starts : (value t : ℕ) → starts_at (unit_put value) t ≡ starts_at v t
-    unit_starts value t = ap (λ (u : View). starts_at u t) (unit_then value) ∙ starts_kept v s slot (unit_word v s i value) (unit_write value) t
+    pub unit_tables : (value : ℕ) → SameTables v (unit_put value)
+    unit_tables value = subst (λ (u : View). SameTables v u) (sym (unit_then value)) (tables_written v s slot (unit_word v s i value) (unit_write value))
 
     pub unit_graph : (value : ℕ) → value < 2 ^ (8 * unit_bytes_of (node_in v s).format)
         → heap_graph (unit_put value) ≡ with_node (heap_graph v) s (record (node_in v s) { units = set (node_in v s).units i value })
@@ -161,17 +160,6 @@ module _ (v : View) (whole : IsWhole v) (s : ℕ) (there : IsOrdinary v s) where
     unit_ordinary value t o = ap (λ (u : View). is_ordinary (store_of u) t) (unit_then value) ∙ ordinary_kept v s slot (unit_word v s i value) (unit_write value) t ∙ o
 
 -- ---- writing
-
--- the parts of a heap with other words, which are whole and have the same starts
-pub parts_with : (p : HeapParts) → ArePartsOfHeap p → (v u : View) → view_of p ≡ v → (new : List ℕ) → view_of (record p { region = new }) ≡ u → IsWhole u
-    → ((t : ℕ) → starts_at u t ≡ starts_at v t) → length u.words ≡ length v.words → ArePartsOfHeap (record p { region = new })
-parts_with p k v u same new seen whole starts long = record {
-  whole = subst (λ (x : View). IsWhole x) (sym seen) whole;
-  map = record {
-    starts = λ t. k.map.starts t ∙ ap (λ (x : View). starts_at x t) same ∙ sym (starts t) ∙ ap (λ (x : View). starts_at x t) (sym seen);
-    covers = k.map.covers ∙ ap (λ (x : View). length x.words) same ∙ sym long ∙ ap (λ (x : View). length x.words) (sym seen);
-  };
-}
 
 -- a unit that is put, by what was read
 pub unit_seen : (p v : View) → p ≡ v → (s i value place bytes word w : ℕ) (new : List ℕ) → place ≡ unit_place p s i → bytes ≡ unit_bytes_of (body_in p s).format → word ≡ get_or p.words place 0

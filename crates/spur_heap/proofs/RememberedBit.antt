@@ -9,10 +9,12 @@ use Rattle.object_header.proofs.Fields.{SetsField-with_field}
 use Rattle.spur_graph.specs.Cells.{Body, There, Store, body_from}
 use Rattle.spur_graph.specs.Spaces.{old_row, eden_row, past_row}
 use Rattle.spur_graph.specs.HeapRoom.{room_in}
+use Rattle.spur_graph.specs.Ordinary.{is_ordinary}
 use Rattle.spur_graph.specs.CellGraph.{read}
 use Rattle.spur_graph.specs.Heaps.{View, IsWhole, store_of, chunks_of, heap_to, heap_value, heap_graph, heap_room, graph_in, own_name, HasBits, HasNoUnusedBits, is_remembered}
 use Rattle.heap_cells.specs.RowWrites.{Rewrites}
 use Rattle.heap_cells.proofs.CellKinds.{there_is, there_starts}
+use Rattle.heap_cells.proofs.Cutting.{start-in, stands}
 use Rattle.heap_cells.proofs.ObjectReads.{object-body}
 use Rattle.heap_cells.proofs.ObjectWrites.{header-written}
 use Rattle.heap_cells.proofs.UnusedBits.{set_unused}
@@ -21,6 +23,8 @@ use Rattle.spur_heap.specs.Remembering.{with_remembered, remembered_at}
 use Rattle.spur_heap.proofs.Orders.{order}
 use Rattle.spur_heap.proofs.OneCell.{with_cell}
 use Rattle.spur_heap.proofs.Touched.{Touch, Keeps, Fits, touched_store, touched_whole, touched_graph, touched_room}
+use Rattle.spur_heap.proofs.Headers.{header_read, header_touch}
+use Rattle.spur_heap.proofs.Tables.{SameTables, touched_tables}
 use Rattle.spur_heap.proofs.Hops.{start_at}
 
 -- the bit is set, and every other field of the header is as before
@@ -56,20 +60,11 @@ module _ (v : View) (k : AreSound v) (s : ℕ) (object : is_object v s ≡ true)
   abbrev word : ℕ
   word = get_or v.words s 0
 
-  inside : s < length v.words
-  inside = let b = (start_at v k s (there_starts ((store_of v).cell s) object)).below in omega (arith, b)
-
   same_body : body_from (fields_of (with_remembered word)) (body_in v s).words ≡ body_in v s
   same_body =
       let n = sets_bit word in
       let is : body_in v s ≡ body_from (fields_of word) (slots_from v.words s) = object-body _ v.words _ (order v k) s object in
       (λ x. let b : Body = record { class = n.class x; hash = n.hash x; format = n.format x; pinned = n.pinned x; readonly = n.readonly x; words = (is x).words } in b) ∙ sym is
-
-  rewrites : Rewrites heap_to v.words (remembered_at v s).words (length v.words) (chunks_of v) s (There (body_in v s))
-  rewrites =
-      let is = there_is ((store_of v).cell s) object in
-      let r = header-written heap_to v.words (length v.words) (chunks_of v) s (with_remembered word) (body_in v s) (order v k) (omega arith) is (sets_bit word).count (sets_bit word).class in
-      subst (λ b. Rewrites heap_to v.words (remembered_at v s).words (length v.words) (chunks_of v) s (There b)) same_body r
 
   pub remembered_length : length (remembered_at v s).words ≡ length v.words
   remembered_length = length-set v.words s (with_remembered word)
@@ -83,15 +78,14 @@ module _ (v : View) (k : AreSound v) (s : ℕ) (object : is_object v s ≡ true)
       ] in
       λ x. let h : Store = record (store_of v) { cell = λ t. cell t x } in h
 
-  -- the header at `s`, and the others
   here : get_or (remembered_at v s).words s 0 ≡ with_remembered word
-  here = get_or-set_same v.words s (with_remembered word) 0 inside
-
-  other : (t : ℕ) → t ≢ s → get_or (remembered_at v s).words t 0 ≡ get_or v.words t 0
-  other t n = get_or-set_other v.words s t (with_remembered word) 0 n
+  here = header_read v k s object (with_remembered word)
 
   touch : Touch v (remembered_at v s).words s (There (body_in v s))
-  touch = record { sound = k; long = remembered_length; rewrites = rewrites; headers = λ c m n. other c.start n }
+  touch = header_touch v k s object (with_remembered word) (body_in v s) same_body (sets_bit word).count (sets_bit word).class
+
+  pub remembered_tables : SameTables v (remembered_at v s)
+  remembered_tables = touched_tables v (remembered_at v s).words s (There (body_in v s)) touch (there_starts ((store_of v).cell s) object) refl (λ t. ap (λ (h : Store). is_ordinary h t) same_cell)
 
   pub remembered_store : store_of (remembered_at v s) ≡ store_of v
   remembered_store = touched_store v (remembered_at v s).words s (There (body_in v s)) touch ∙ same_cell

@@ -23,7 +23,7 @@ start-mid [] ys f = refl
 start-mid (x ∷ xs) ys f = start-mid xs ys f
 
 -- the words of a free chunk are a new object, whose slots name nothing in new space, and perhaps a free chunk behind it
-pub record Takes (v : View) (new : List ℕ) (xs ys : List Chunk) (f : Chunk) (ms : List Chunk) (s : ℕ) (b : Body) : Type 0 where
+pub record IsTaken (v : View) (new : List ℕ) (xs ys : List Chunk) (f : Chunk) (ms : List Chunk) (s : ℕ) (b : Body) : Type 0 where
   pub splits : Splits v.words new v.limits v.spaces xs ys f ms
   pub free : (store_of v).cell f.start ≡ Empty
   pub low : f.at ≤ s
@@ -35,7 +35,7 @@ pub record Takes (v : View) (new : List ℕ) (xs ys : List Chunk) (f : Chunk) (m
   pub bits : (d : Chunk) → In ms d → HasBits v.phase (get_or new d.start 0)
   pub forgotten : (d : Chunk) → In ms d → is_remembered new d.start ≡ false
 
-module _ {v : View} {new : List ℕ} {xs ys : List Chunk} {f : Chunk} {ms : List Chunk} {s : ℕ} {b : Body} (k : Takes v new xs ys f ms s b) (whole : IsWhole v) where
+module _ {v : View} {new : List ℕ} {xs ys : List Chunk} {f : Chunk} {ms : List Chunk} {s : ℕ} {b : Body} (k : IsTaken v new xs ys f ms s b) (whole : IsWhole v) where
   abbrev pub taken : View
   taken = record v { words = new }
 

@@ -13,11 +13,11 @@ use Rattle.heap_cells.specs.Rows.{starts_of}
 use Rattle.heap_cells.specs.RowWrites.{Rewrites}
 use Rattle.heap_cells.proofs.CellKinds.{there_starts, there_is}
 use Rattle.heap_cells.proofs.Bodies.{IsLike, with_words}
-use Rattle.heap_cells.proofs.Cutting.{start-in}
+use Rattle.heap_cells.proofs.Cutting.{start-in, stands, shape}
 use Rattle.heap_cells.proofs.Members.{In, in_list, listed, start_of_chunk}
 use Rattle.heap_cells.proofs.ObjectWrites.{body-written}
 use Rattle.heap_cells.proofs.Over.{over-written}
-use Rattle.heap_cells.proofs.References.{ordinary_there}
+use Rattle.heap_cells.proofs.References.{ordinary_there, ordinary_apart}
 use Rattle.heap_cells.proofs.Starts.{starts-rise}
 use Rattle.heap_cells.proofs.ObjectReads.{object-slots}
 use Rattle.spur_heap.specs.Words.{AreSound, body_in, is_good, starts_at}
@@ -26,20 +26,14 @@ use Rattle.spur_heap.proofs.Orders.{order}
 use Rattle.spur_heap.proofs.Hops.{start_at}
 use Rattle.spur_heap.proofs.OneCell.{with_cell}
 use Rattle.spur_heap.proofs.Touched.{Touch, Keeps, Fits, same_bit, touched_store, touched_whole, touched_graph, touched_room}
+use Rattle.spur_heap.proofs.Tables.{SameTables}
+use Rattle.spur_heap.proofs.Replaced.{replaced_whole, replaced_tables, replaced_ordinary, replaced_good, replaced_value, replaced_graph, replaced_room}
 use Rattle.spur_heap.proofs.Changing.{changed, Change, start-same, internal-same, ordinary-same, reference-same, good-same, sound_changed, mourners_kept}
 use Rattle.spur_heap.proofs.Graphs.{read-same, graph-changed, room-same}
 
 -- a pointer slot of an ordinary object has a good word
 pub slot_good : (v : View) → AreSound v → (s : ℕ) → is_ordinary (store_of v) s ≡ true → (i : ℕ) → i < pointer_count (body_in v s) → is_good v (get_or (body_in v s).words i 0) ≡ true
 slot_good v k s ordinary i low = not-false _ (sym (λ x. ordinary x && lt-ltb i (pointer_count (body_in v s)) low x && not (is_good v (get_or (body_in v s).words i 0))) ∙ k.sound.slots s i)
-
--- a word for slot `n` of the ordinary object that starts at `s`
-pub record Write (v : View) (s n w : ℕ) : Type 0 where
-  pub sound : AreSound v
-  pub ordinary : is_ordinary (store_of v) s ≡ true
-  pub inside : n < length (body_in v s).words
-  pub literals : 24 ≤ (body_in v s).format → 0 < n
-  pub value : n < pointer_count (body_in v s) → is_good v w ≡ true
 
 -- the words of the object then
 abbrev pub body_then : View → ℕ → ℕ → ℕ → Body
@@ -49,21 +43,85 @@ body_then v s n w = with_words (body_in v s) (set (body_in v s).words n w)
 abbrev pub then : View → ℕ → ℕ → ℕ → View
 then v s n w = after v (s + 1 + n) w
 
+-- slot `n` of the object that starts at `s`
+pub record Slot (v : View) (s n : ℕ) : Type 0 where
+  pub sound : AreSound v
+  pub object : is_there ((store_of v).cell s) ≡ true
+  pub inside : n < length (body_in v s).words
+
+-- the object is remembered where it has to be for this word
+abbrev pub BitFor : View → ℕ → ℕ → ℕ → Type 0
+BitFor v s n w = n < pointer_count (body_in v s) → s < v.spaces.old_end → is_over v.spaces.old_end w ≡ true → is_remembered v.words s ≡ true
+
+module _ (v : View) (s n w : ℕ) (k : Slot v s n) where
+  slots : length (body_in v s).words ≡ slots_at v.words s
+  slots = object-slots _ v.words _ (order v k.sound) s k.object
+
+  rewrites : Rewrites heap_to v.words (then v s n w).words (length v.words) (chunks_of v) s (There (body_then v s n w))
+  rewrites =
+      let r = body-written heap_to v.words (length v.words) (chunks_of v) s (s + 1 + n) w (body_in v s) (order v k.sound) (there_is ((store_of v).cell s) k.object) (omega arith) (omega (arith, slots, k.inside)) in
+      let place : s + 1 + n - s - 1 ≡ n = omega arith in
+      subst (λ i. Rewrites heap_to v.words (then v s n w).words (length v.words) (chunks_of v) s (There (body_then v s i w))) place r
+
+  pub slot_length : length (then v s n w).words ≡ length v.words
+  slot_length = length-set v.words (s + 1 + n) w
+
+  own_header : get_or (then v s n w).words s 0 ≡ get_or v.words s 0
+  own_header = get_or-set_other v.words (s + 1 + n) s w 0 (λ e. omega (arith, e))
+
+  pub slot_touch : Touch v (then v s n w).words s (There (body_then v s n w))
+  slot_touch =
+      let c = start-in heap_to v.words (chunks_of v) s (there_starts ((store_of v).cell s) k.object) in
+      let l = stands v.words 0 (length v.words) (chunks_of v) c.0 (order v k.sound) c.1 in
+      let told = (shape v.words c.0 l.chunk).slots in
+      let count : slots_at v.words c.0.start ≡ slots_at v.words s = ap (slots_at v.words) c.2 in
+      record {
+        sound = k.sound;
+        long = slot_length;
+        rewrites = rewrites;
+        chunk = c.0;
+        inside = c.1;
+        start = c.2;
+        others = λ j out. get_or-set_other v.words (s + 1 + n) j w 0 (λ e. elim out [
+          | inl low ↦ omega (arith, e, low, l.lies.lead, c.2)
+          | inr high ↦ omega (arith, e, high, l.lies.slots, c.2, told, count, slots, k.inside)
+        ]);
+      }
+
+  bit_kept : is_remembered (then v s n w).words s ≡ is_remembered v.words s
+  bit_kept = same_bit v.words (then v s n w).words s own_header
+
+  pub slot_fits : IsLike (body_in v s) (set (body_in v s).words n w) → BitFor v s n w → IsWhole v → Fits v (then v s n w).words s (There (body_then v s n w))
+  slot_fits like remembered_at whole = record {
+    bits = λ bits. subst (λ u. HasBits v.phase u) (sym own_header) bits;
+    all = λ low other over. bit_kept ∙ elim (over-written v.spaces.old_end (body_in v s) n w k.inside like over) [
+      | inl before ↦ whole.remembered.all s low other (ap (names_over v.spaces.old_end) (there_is ((store_of v).cell s) k.object) ∙ before)
+      | inr now ↦ remembered_at now.0 low now.1
+    ];
+    only = λ on.
+        let c = start-in heap_to v.words (chunks_of v) s (there_starts ((store_of v).cell s) k.object) in
+        let r = whole.remembered.only c.0 (listed (chunks_of v) c.0 c.1) (ap (is_remembered v.words) c.2 ∙ sym bit_kept ∙ on) in
+        (omega (arith, r.0, c.2), refl);
+    young = λ l mobile. (refl, mobile);
+  }
+
+-- a word for slot `n` of the ordinary object that starts at `s`
+pub record Write (v : View) (s n w : ℕ) : Type 0 where
+  pub sound : AreSound v
+  pub ordinary : is_ordinary (store_of v) s ≡ true
+  pub inside : n < length (body_in v s).words
+  pub literals : 24 ≤ (body_in v s).format → 0 < n
+  pub value : n < pointer_count (body_in v s) → is_good v w ≡ true
+
 module _ (v : View) (s n w : ℕ) (k : Write v s n w) where
   object : is_there ((store_of v).cell s) ≡ true
   object = ordinary_there (store_of v) s k.ordinary
 
-  slots : length (body_in v s).words ≡ slots_at v.words s
-  slots = object-slots _ v.words _ (order v k.sound) s object
-
-  rewrites : Rewrites heap_to v.words (then v s n w).words (length v.words) (chunks_of v) s (There (body_then v s n w))
-  rewrites =
-      let r = body-written heap_to v.words (length v.words) (chunks_of v) s (s + 1 + n) w (body_in v s) (order v k.sound) (there_is ((store_of v).cell s) object) (omega arith) (omega (arith, slots, k.inside)) in
-      let place : s + 1 + n - s - 1 ≡ n = omega arith in
-      subst (λ i. Rewrites heap_to v.words (then v s n w).words (length v.words) (chunks_of v) s (There (body_then v s i w))) place r
+  slot : Slot v s n
+  slot = record { sound = k.sound; object = object; inside = k.inside }
 
   pub same_length : length (then v s n w).words ≡ length v.words
-  same_length = length-set v.words (s + 1 + n) w
+  same_length = slot_length v s n w slot
 
   good_slot : (i : ℕ) → i < pointer_count (body_in v s) → is_good v (get_or (set (body_in v s).words n w) i 0) ≡ true
   good_slot i low = elim (cases_eq i n) [
@@ -76,88 +134,46 @@ module _ (v : View) (s n w : ℕ) (k : Write v s n w) where
 
   pub change : Change (store_of v) s (body_in v s) (body_then v s n w)
   change = record {
-    sound = k.sound.sound;
-    there = there_is ((store_of v).cell s) object;
+    swap = record {
+      sound = k.sound.sound;
+      alike = record {
+        there = there_is ((store_of v).cell s) object;
+        class = refl;
+        format = refl;
+        like = like;
+      };
+      roots = λ e. (ordinary_apart (store_of v) s k.ordinary).0 (sym e);
+      slots = λ on. good_slot;
+    };
     ordinary = k.ordinary;
-    class = refl;
-    hash = refl;
-    format = refl;
-    like = like;
-    slots = good_slot;
+    hash = inl refl;
   }
-
-  -- no header is written
-  header_kept : (c : Chunk) → In (chunks_of v) c → get_or (then v s n w).words c.start 0 ≡ get_or v.words c.start 0
-  header_kept c m = get_or-set_other v.words (s + 1 + n) c.start w 0 (λ e. elim (cases_lt s c.start) [
-    | inr before ↦ omega (arith, e, before)
-    | inl behind ↦
-        let rise = starts-rise v.words (length v.words) (chunks_of v) (order v k.sound) in
-        let a = rise.apart s c.start (start_at v k.sound s (there_starts ((store_of v).cell s) object)).stands (listed (starts_of (chunks_of v)) c.start (start_of_chunk (chunks_of v) c m)) behind in
-        omega (arith, e, a.slots, slots, k.inside)
-  ])
-
-  own_header : get_or (then v s n w).words s 0 ≡ get_or v.words s 0
-  own_header = get_or-set_other v.words (s + 1 + n) s w 0 (λ e. omega (arith, e))
 
   touch : Touch v (then v s n w).words s (There (body_then v s n w))
-  touch = record { sound = k.sound; long = same_length; rewrites = rewrites; headers = λ c m n. header_kept c m }
+  touch = slot_touch v s n w slot
 
-  keeps : Keeps (store_of v) (with_cell (store_of v) s (There (body_then v s n w)))
-  keeps = record {
-    sound = sound_changed change;
-    internal = λ t e. sym (internal-same change t) ∙ e;
-    goods = λ u e. good-same change u ∙ e;
-    references = λ u e. reference-same change u ∙ e;
-    mourners = mourners_kept change;
-  }
-
-  -- the object is remembered where it has to be for this word
   abbrev pub HasBitFor : Type 0
-  HasBitFor = n < pointer_count (body_in v s) → s < v.spaces.old_end → is_over v.spaces.old_end w ≡ true → is_remembered v.words s ≡ true
-
-  bit_kept : is_remembered (then v s n w).words s ≡ is_remembered v.words s
-  bit_kept = same_bit v.words (then v s n w).words s own_header
-
-  fits : HasBitFor → IsWhole v → Fits v (then v s n w).words s (There (body_then v s n w))
-  fits remembered_at whole = record {
-    bits = λ bits. subst (λ u. HasBits v.phase u) (sym own_header) bits;
-    all = λ low other over. bit_kept ∙ elim (over-written v.spaces.old_end (body_in v s) n w k.inside like over) [
-      | inl before ↦ whole.remembered.all s low other (ap (names_over v.spaces.old_end) change.there ∙ before)
-      | inr now ↦ remembered_at now.0 low now.1
-    ];
-    only = λ on.
-        let c = start-in heap_to v.words (chunks_of v) s (there_starts ((store_of v).cell s) object) in
-        let r = whole.remembered.only c.0 (listed (chunks_of v) c.0 c.1) (ap (is_remembered v.words) c.2 ∙ sym bit_kept ∙ on) in
-        (omega (arith, r.0, c.2), refl);
-    young = λ l mobile. (refl, mobile);
-  }
+  HasBitFor = BitFor v s n w
 
   pub whole_written : HasBitFor → IsWhole v → IsWhole (then v s n w)
-  whole_written remembered_at whole = touched_whole v (then v s n w).words s (There (body_then v s n w)) touch (fits remembered_at whole) keeps whole
-
-  store-changed : store_of (then v s n w) ≡ changed (store_of v) s (body_then v s n w)
-  store-changed = touched_store v (then v s n w).words s (There (body_then v s n w)) touch
+  whole_written remembered_at whole = replaced_whole v s (then v s n w).words (body_then v s n w) touch change (slot_fits v s n w slot like remembered_at whole) whole
 
   -- ---- what is the same
 
-  pub starts_kept : (t : ℕ) → starts_at (then v s n w) t ≡ starts_at v t
-  starts_kept t = ap (λ (h : Store). is_start (h.cell t)) store-changed ∙ start-same change t
+  pub tables_written : SameTables v (then v s n w)
+  tables_written = replaced_tables v s (then v s n w).words (body_then v s n w) touch change
 
   pub ordinary_kept : (t : ℕ) → is_ordinary (store_of (then v s n w)) t ≡ is_ordinary (store_of v) t
-  ordinary_kept t = ap (λ (h : Store). is_ordinary h t) store-changed ∙ ordinary-same change t
+  ordinary_kept = replaced_ordinary v s (then v s n w).words (body_then v s n w) touch change
 
   pub good_kept : (u : ℕ) → is_good (then v s n w) u ≡ is_good v u
-  good_kept u = ap (λ (h : Store). is_good_word h u) store-changed ∙ good-same change u
+  good_kept = replaced_good v s (then v s n w).words (body_then v s n w) touch change
 
   pub value_kept : (u : ℕ) → heap_value (then v s n w) u ≡ heap_value v u
-  value_kept u = ap (λ (h : Store). read own_name h u) store-changed ∙ read-same change u
+  value_kept = replaced_value v s (then v s n w).words (body_then v s n w) touch change
 
   pub graph_written : heap_graph (then v s n w) ≡ with_node (heap_graph v) s (node_of own_name (store_of v) (body_then v s n w))
-  graph_written =
-      touched_graph v (then v s n w).words s (There (body_then v s n w)) touch
-      ∙ graph-changed change (in_list (starts_of (chunks_of v)) s (start_at v k.sound s (there_starts ((store_of v).cell s) object)).stands) v.special v.handles v.mourners v.hash (length v.words)
+  graph_written = replaced_graph v s (then v s n w).words (body_then v s n w) touch change
 
   pub room_kept : heap_room (then v s n w) ≡ heap_room v
-  room_kept =
-      touched_room v (then v s n w).words s (There (body_then v s n w)) touch
-      ∙ room-same change refl (old_row v.words v.spaces) (eden_row v.words v.spaces) (past_row v.words v.spaces) v.spaces.old_end v.limits v.spaces.eden_used v.spaces.past_used
+  room_kept = replaced_room v s (then v s n w).words (body_then v s n w) touch change refl

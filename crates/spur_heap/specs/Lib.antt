@@ -2,6 +2,10 @@ pub mod Words
 pub mod Sizes
 pub mod Bares
 pub mod Parts
+pub mod Counting
 pub mod Remembering
 pub mod Views
 pub mod Lending
+pub mod Fresh
+pub mod Allocating
+pub mod Entering

@@ -5,7 +5,10 @@ use Rattle.std.specs.FinMap.{FinMap, code}
 use Rattle.heap_walk.specs.Starts.{has_start, covered}
 use Rattle.spur_graph.specs.Graph.{handle_cmp}
 use Rattle.spur_graph.specs.Cells.{is_start}
-use Rattle.spur_graph.specs.Spaces.{Spaces}
+use Rattle.spur_graph.specs.Ordinary.{ordinary_starts}
+use Rattle.spur_graph.specs.Spaces.{Spaces, old_row}
+use Rattle.free_lists.specs.Rows.{free_runs}
+use Rattle.free_lists.specs.Lists.{Lists}
 use Rattle.spur_graph.specs.Heaps.{View, Phase, Whole, Marked, store_of, IsWhole}
 use Rattle.spur_heap.specs.declared.heap.HeapParts.{HeapParts}
 use Rattle.spur_heap.specs.declared.heap.Phase as code
@@ -47,10 +50,20 @@ pub record HasMap (p : HeapParts) : Type 0 where
   pub starts : (s : ℕ) → has_start p.starts s ≡ is_start ((store_of (view_of p)).cell s)
   pub covers : covered p.starts ≡ length p.region
 
+-- the free lists have the free chunks of old space, and no other
+pub record HasLists (p : HeapParts) : Type 0 where
+  pub lists : Lists p.region p.free (free_runs p.region (old_row p.region (spaces_of p)))
+
+-- the number is that of the ordinary objects
+pub record HasCount (p : HeapParts) : Type 0 where
+  pub count : p.objects ≡ length (ordinary_starts (store_of (view_of p)))
+
 -- the parts stand for a graph, and each table has what the words tell
 pub record ArePartsOfHeap (p : HeapParts) : Type 0 where
   pub whole : IsWhole (view_of p)
   pub map : HasMap p
+  pub free_chunks : HasLists p
+  pub objects : HasCount p
 
 -- phases as numbers
 abbrev number_of : Phase → ℕ

@@ -14,7 +14,7 @@ use crate::places::{first_start, first_word};
 use spur_graph::{HIDDEN_ROOTS, PAGE_ENTRIES, PAGE_PLACES};
 
 /// Slot `i` of the hidden roots.
-fn root_word(parts: &HeapParts, i: usize) -> u64
+pub fn root_word(parts: &HeapParts, i: usize) -> u64
     requires sound { AreSound (view_of parts.now) }
     requires inside { i < roots_slots }
     ensures { result ≡ root_slot (store_of (view_of parts.now)) i }

@@ -10,12 +10,14 @@ ghost use Rattle.spur_graph.specs.Heaps.{heap_graph, heap_value, IsWhole};
 ghost use Rattle.heap_cells.specs.Settled.{word_of};
 ghost use Rattle.spur_heap.specs.Views.{Adopts, AreClear, IsGood, adopted, class_word, follows, store};
 
+use crate::adopting::make_tables;
 use crate::bare::Bare;
 use crate::chains::follow_word;
 use crate::classes::class_word;
 use crate::places::first_word;
+use free_lists::FreeLists;
 use handle_table::HandleTable;
-use heap_walk::{StartMap, mark_starts};
+use heap_walk::StartMap;
 use spur_graph::{HandleName, Limits, Refusal, words_fit};
 use spur_words::Region;
 use std::marker::Model;
@@ -41,6 +43,10 @@ pub struct HeapParts {
     pub past_used: usize,
     /// The starts of the objects and forwarders of all spaces.
     pub starts: StartMap,
+    /// The free chunks of old space.
+    pub free: FreeLists,
+    /// How many ordinary objects there are, in all spaces.
+    pub objects: usize,
     /// The words of handles, by mutator and name.
     pub handles: HandleTable,
     /// The state from which identity hashes are drawn.
@@ -97,31 +103,32 @@ impl Heap {
         let Bare {
             region,
             old_end,
-            mut starts,
+            starts,
             handles,
             limits,
         } = bare;
-        mark_starts(region.as_slice(), old_end, &mut starts);
         let first_at = old_end + limits.eden;
-        Heap {
-            parts: HeapParts {
-                region,
-                old_end,
-                eden_at: old_end,
-                first_at,
-                second_at: first_at + limits.survivor,
-                past_at: first_at,
-                eden_used: 0,
-                past_used: 0,
-                starts,
-                handles,
-                hash,
-                special,
-                carried,
-                limits,
-                phase: Phase::Whole,
-            },
-        }
+        let mut parts = HeapParts {
+            region,
+            old_end,
+            eden_at: old_end,
+            first_at,
+            second_at: first_at + limits.survivor,
+            past_at: first_at,
+            eden_used: 0,
+            past_used: 0,
+            starts,
+            free: FreeLists::new(),
+            objects: 0,
+            handles,
+            hash,
+            special,
+            carried,
+            limits,
+            phase: Phase::Whole,
+        };
+        make_tables(&mut parts);
+        Heap { parts }
     }
 
     /// Every heap is whole, and its graph is closed.

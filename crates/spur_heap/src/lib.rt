@@ -11,21 +11,31 @@
 //!   new space has it;
 //! - `bits`: no header has a grey bit or a bit of no field, and where the phase is `Whole` none has a mark bit.
 //!
+//! Beside it, each table agrees with the words: the map has the starts of objects and forwarders, the free lists have the free chunks of old space, and
+//! the number of ordinary objects is kept.
+//!
 //! What reads words here asks for `spaces`, `rows`, `sound` and `few` alone, and so serves between two steps of a write as well.
 //!
 //! Forwarders may stand in a heap; to follow a word is to go from forwarder to forwarder until an object stands there, the partial read barrier of
 //! Miranda and Béra (ISMM 2015). The layout is that of Spur's 64-bit object memory, with indices of words in place of byte addresses.
 #![tactic(auto)]
 
+mod adopting;
+mod allocation;
 mod bare;
 mod chains;
 mod classes;
+mod counts;
+mod entries;
+mod hashes;
 mod heap;
+mod making;
 mod objects;
 mod places;
 mod remembering;
 mod slots;
 mod units;
 
+pub use allocation::Space;
 pub use bare::Bare;
 pub use heap::{Heap, HeapParts, Phase};

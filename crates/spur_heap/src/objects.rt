@@ -2,6 +2,12 @@
 ghost use Rattle.std.specs.Prelude.{◌≡◌, ◌==◌, ◌<◌, ◌*◌, ◌^◌, ◌+◌, ℕ, length, slice_index, slice_index_or, slice_set, true};
 ghost use Rattle.object_header.specs.Fields.{fields_of};
 ghost use Rattle.object_header.specs.Formats.{is_method, unit_bytes_of};
+ghost use Rattle.std.specs.Prelude.{IfOk};
+ghost use Rattle.std.specs.Result.{result_err};
+ghost use Rattle.spur_graph.specs.declared.answer.Refusal.TheVariants as refusals;
+ghost use Rattle.spur_graph.specs.declared.answer.Value.TheVariants.{Ref};
+ghost use Rattle.spur_graph.specs.Value.{is_immediate};
+ghost use Rattle.spur_graph.specs.Refusals.{test};
 ghost use Rattle.spur_graph.specs.Graph.{with_node};
 ghost use Rattle.spur_graph.specs.Heaps.{heap_value, heap_graph, heap_room};
 ghost use Rattle.spur_heap.specs.Words.{unit_place, unit_word};
@@ -13,8 +19,22 @@ use crate::remembering::remember_for;
 use crate::slots::{format_of, pointer_count_of, unit_count_of, unit_place_of};
 use crate::units::{unit_of, with_unit};
 use object_header::Header;
+use spur_graph::Refusal;
 
 impl Heap {
+    /// The start of the object that a word leads to; [`Refusal::Immediate`] where it leads to none. It costs a step for each forwarder on the way.
+    pub fn object(&self, word: u64) -> Result<usize, Refusal>
+        requires good { IsGood self.now word }
+        ensures refusal { test (is_immediate (heap_value self.now word)) refusals.Immediate ≡ result_err result }
+        ensures there { IfOk result (IsOrdinary self.now) }
+        ensures value { IfOk result (λ start. heap_value self.now word ≡ Ref start) }
+    {
+        if word % 8 != 0 {
+            return Err(Refusal::Immediate);
+        }
+        Ok((self.follow(word) / 8) as usize)
+    }
+
     /// The header word of an object.
     pub fn header(&self, start: usize) -> Header
         requires there { IsOrdinary self.now start }

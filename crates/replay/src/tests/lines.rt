@@ -19,9 +19,9 @@ fn a_line_of_no_command_is_refused(rt: HostRuntime) -> Result<(), Fail> {
             ("@16 stat", "! syntax"),
             ("@01 stat", "! syntax"),
             ("@ stat", "! syntax"),
-            ("stat", "! unsupported"),
+            ("save a.image", "! unsupported"),
             ("@7 gc", "! unsupported"),
-            ("hash a", "! unsupported"),
+            ("pin a", "! unsupported"),
             ("kind q", "! unknown"),
         ],
     )
@@ -38,7 +38,7 @@ fn a_long_line_is_told_from_a_wrong_one(rt: HostRuntime) -> Result<(), Fail> {
     ] {
         let mut files = store(rt.alloc(), "")?;
         files.append("a.script", &letters[..length])?;
-        files.append("a.script", b"\nstat\n")?;
+        files.append("a.script", b"\ngc\n")?;
         check(&rt, rt.alloc(), &mut files, Status::Done, answer)?;
     }
     Ok(())

@@ -2,10 +2,10 @@ use Rattle.std.proofs.Common.{◌∙◌, List, ℕ, sym, ap, refl, rules, arith,
 use Rattle.spur_graph.specs.declared.answer.Value.TheVariants.{Ref}
 use Rattle.spur_graph.specs.declared.answer.Value.TheVariants as values
 use Rattle.spur_graph.specs.declared.answer.Answer.TheVariants as answers
-use Rattle.spur_graph.specs.Form.{Special, Nil, Yes, No, Int, Char, Float, Copy, Drop, Kind, Class, Size, Fetch, Store, Unit, SetUnit, Same}
+use Rattle.spur_graph.specs.Form.{Special, Nil, Yes, No, Int, Char, Float, Copy, Drop, Kind, Class, Size, Fetch, Store, Unit, SetUnit, Same, Enter, Hash, Stat}
 use Rattle.std.specs.Result.{result_err}
 use Rattle.replay.specs.Sessions.{graph_of, over, value_in}
-use Rattle.replay.proofs.Leads.{root_value}
+use Rattle.spur_heap.proofs.Leads.{root_value}
 use Rattle.replay.proofs.Graphs.{nil_named, no_named, yes_named, special_named}
 use Rattle.replay.proofs.Rows.{size_row}
 use Rattle.replay.proofs.Steps.{exactly}
@@ -140,3 +140,32 @@ returns-in_ok-word-in-Size-clause-done c =
     let word = c.in_ok-word-in-Size in
     let o : List ℕ = c.in-Size.o.bytes in
     rw (c.in-Size.is) (exactly v v c.args.mutator (Size o) c.size.result (size_does v c.args.mutator o (value_in v word.word) c.size.result word.ensures.value c.size.ensures.size))
+
+pub returns-in-New-clause-refusal : goal.returns-in-New-clause-refusal
+returns-in-New-clause-refusal c = rw (c.in-New.is) c.make.ensures.refusal
+
+pub returns-in-New-clause-done : goal.returns-in-New-clause-done
+returns-in-New-clause-done c = rw (c.in-New.is) c.make.ensures.done
+
+pub returns-in-NewOld-clause-refusal : goal.returns-in-NewOld-clause-refusal
+returns-in-NewOld-clause-refusal c = rw (c.in-NewOld.is) c.make-in-NewOld.ensures.refusal
+
+pub returns-in-NewOld-clause-done : goal.returns-in-NewOld-clause-done
+returns-in-NewOld-clause-done c = rw (c.in-NewOld.is) c.make-in-NewOld.ensures.done
+
+pub returns-in-Enter-clause-refusal : goal.returns-in-Enter-clause-refusal
+returns-in-Enter-clause-refusal c = rw (c.in-Enter.is) c.enter_class.ensures.refusal
+
+pub returns-in-Enter-clause-done : goal.returns-in-Enter-clause-done
+returns-in-Enter-clause-done c = rw (c.in-Enter.is) (exactly c.args.heap.now c.enter_class.new.heap c.args.mutator (Enter c.in-Enter.c.bytes) c.enter_class.result c.enter_class.ensures.done)
+
+pub returns-in-Hash-clause-refusal : goal.returns-in-Hash-clause-refusal
+returns-in-Hash-clause-refusal c = rw (c.in-Hash.is) c.hash.ensures.refusal
+
+pub returns-in-Hash-clause-done : goal.returns-in-Hash-clause-done
+returns-in-Hash-clause-done c = rw (c.in-Hash.is) (exactly c.args.heap.now c.hash.new.heap c.args.mutator (Hash c.in-Hash.o.bytes) c.hash.result c.hash.ensures.done)
+
+pub returns-in-Stat-clause-done : goal.returns-in-Stat-clause-done
+returns-in-Stat-clause-done c =
+    let v = c.args.heap.now in
+    rw (c.in-Stat.is) (exactly v v c.args.mutator Stat (Ok c.stat.result) c.stat.ensures.done)

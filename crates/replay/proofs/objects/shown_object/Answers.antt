@@ -5,7 +5,7 @@ use Rattle.spur_graph.specs.Graph.{node}
 use Rattle.spur_graph.specs.Shows.{shown}
 use Rattle.replay.specs.Sessions.{graph_of}
 use Rattle.replay.proofs.Graphs.{nil_named, no_named, yes_named, node_there}
-use Rattle.replay.proofs.Leads.{root_start}
+use Rattle.spur_heap.proofs.Leads.{root_start}
 use Rattle.replay.proofs.Values.{shown_nil, shown_no, shown_yes, shown_other}
 use Rattle.replay.proofs.objects.shown_object.Goals as goal
 

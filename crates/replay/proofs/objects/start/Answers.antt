@@ -1,4 +1,5 @@
-use Rattle.replay.proofs.Leads.{reference_leads, names_start}
+use Rattle.spur_heap.proofs.Leads.{reference_leads}
+use Rattle.replay.proofs.Leads.{names_start}
 use Rattle.replay.proofs.objects.start.Goals as goal
 
 pub returns : goal.returns

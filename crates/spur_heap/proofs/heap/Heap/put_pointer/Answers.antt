@@ -4,8 +4,9 @@ use Rattle.spur_heap.specs.declared.heap.HeapParts.{HeapParts}
 use Rattle.spur_heap.specs.Parts.{view_of, ArePartsOfHeap}
 use Rattle.spur_heap.specs.Views.{IsOrdinary, IsGood}
 use Rattle.spur_heap.specs.Remembering.{stored}
-use Rattle.spur_heap.proofs.Puts.{start_inside, pointer_inside, parts_with}
-use Rattle.spur_heap.proofs.Storing.{remembered_for_long, stored_whole, stored_starts, stored_length, stored_seen, stored_graph, stored_room, stored_value, stored_good, stored_ordinary}
+use Rattle.spur_heap.proofs.Puts.{start_inside, pointer_inside}
+use Rattle.spur_heap.proofs.Tables.{parts_with}
+use Rattle.spur_heap.proofs.Storing.{remembered_for_long, stored_whole, stored_tables, stored_seen, stored_graph, stored_room, stored_value, stored_good, stored_ordinary}
 use Rattle.spur_heap.proofs.heap.Heap.put_pointer.Goals as goal
 
 pub remember_for-requires : goal.remember_for-requires
@@ -48,8 +49,7 @@ invariant_of-self c =
     subst (λ (p : HeapParts). ArePartsOfHeap (record p { region = c.put.new.self })) (sym c.remember_for.ensures)
     (parts_with c.self.inside.parts c.self.invariant v (stored v c.args.start c.args.i c.args.word) c.self.view_is c.put.new.self seen
     (stored_whole v whole c.args.start c.requires.there c.args.word c.args.i c.requires.within c.requires.no_literals c.requires.good)
-    (stored_starts v whole c.args.start c.requires.there c.args.word c.args.i c.requires.within c.requires.no_literals c.requires.good)
-    (stored_length v whole c.args.start c.requires.there c.args.word c.args.i c.requires.within c.requires.no_literals c.requires.good))
+    (stored_tables v whole c.args.start c.requires.there c.args.word c.args.i c.requires.within c.requires.no_literals c.requires.good))
 
 pub returns-clause-graph : goal.returns-clause-graph
 returns-clause-graph c =

@@ -1,0 +1,7 @@
+pub mod Hashing
+pub mod Entered
+pub mod FreeIndices
+pub mod Numbers
+pub mod Made
+pub mod Placed
+pub mod Entering

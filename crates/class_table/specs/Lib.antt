@@ -1,0 +1,4 @@
+pub mod Rows
+pub mod Instantiating
+pub mod Layouts
+pub mod Paging

@@ -1,0 +1,107 @@
+-- The tables beside the words, where other words tell the same of each.
+use Rattle.std.proofs.Common.{◌≡◌, ◌≢◌, ℕ, true, ◌≤◌, not, List, length, get_or, refl, sym, ap, ◌∙◌, subst, inl, inr}
+use Rattle.std.proofs.lemmas.Bool.{false≢true, cases_eq}
+use Rattle.std.proofs.lemmas.List.Elements.{filter_agree}
+use Rattle.object_header.specs.Chunks.{Chunk}
+use Rattle.spur_graph.specs.Cells.{Cell, Store, is_start}
+use Rattle.spur_graph.specs.Ordinary.{is_ordinary, ordinary_starts}
+use Rattle.spur_graph.specs.Spaces.{old_row, young_row}
+use Rattle.spur_graph.specs.Heaps.{View, IsWhole, store_of, chunks_of, heap_to}
+use Rattle.heap_cells.proofs.Members.{In, in_left}
+use Rattle.free_lists.specs.Runs.{cover}
+use Rattle.free_lists.specs.Rows.{free_runs, is_free}
+use Rattle.free_lists.specs.Lists.{Lists}
+use Rattle.free_lists.specs.declared.lists.FreeLists.{FreeLists}
+use Rattle.free_lists.proofs.Given.{keeps_lists}
+use Rattle.spur_heap.specs.declared.heap.HeapParts.{HeapParts}
+use Rattle.spur_heap.specs.Parts.{view_of, ArePartsOfHeap}
+use Rattle.spur_heap.specs.Words.{starts_at}
+use Rattle.spur_heap.proofs.OneCell.{with_cell, cell_here, cell_other}
+use Rattle.spur_heap.proofs.Orders.{order}
+use Rattle.spur_heap.proofs.Touched.{Touch, touched, touched_store, same_rows, other_words}
+use Rattle.spur_heap.proofs.FreeRuns.{free_told, free_runs_same, covered_by}
+
+-- the words hold these free lists, which are those of old space
+abbrev pub HasFreeLists : View → FreeLists → Type 0
+HasFreeLists v free = Lists v.words free (free_runs v.words (old_row v.words v.spaces))
+
+-- the tables of one heap are those of the other
+pub record SameTables (v u : View) : Type 0 where
+  pub long : length u.words ≡ length v.words
+  pub starts : (t : ℕ) → starts_at u t ≡ starts_at v t
+  pub lists : (free : FreeLists) → HasFreeLists v free → HasFreeLists u free
+  pub count : length (ordinary_starts (store_of u)) ≡ length (ordinary_starts (store_of v))
+
+pub tables-same : (v : View) → SameTables v v
+tables-same v = record { long = refl; starts = λ t. refl; lists = λ free k. k; count = refl }
+
+pub tables-trans : (v u w : View) → SameTables v u → SameTables u w → SameTables v w
+tables-trans v u w a b = record {
+  long = b.long ∙ a.long;
+  starts = λ t. b.starts t ∙ a.starts t;
+  lists = λ free k. b.lists free (a.lists free k);
+  count = b.count ∙ a.count;
+}
+
+-- a write inside one chunk that is no free chunk before or after, and that leaves which objects are ordinary
+module _ (v : View) (new : List ℕ) (s : ℕ) (x : Cell) (k : Touch v new s x) (was : is_start ((store_of v).cell s) ≡ true) (is : is_start x ≡ true) where
+  start_kept : (t : ℕ) → is_start ((with_cell (store_of v) s x).cell t) ≡ starts_at v t
+  start_kept t = elim (cases_eq t s) [
+    | inl e ↦ ap (λ u. is_start ((with_cell (store_of v) s x).cell u)) e ∙ ap is_start (cell_here (store_of v) s x) ∙ is ∙ sym was ∙ sym (ap (starts_at v) e)
+    | inr n ↦ ap is_start (cell_other (store_of v) s x t n)
+  ]
+
+  pub touched_starts : (t : ℕ) → starts_at (touched v new s x k) t ≡ starts_at v t
+  touched_starts t = ap (λ (h : Store). is_start (h.cell t)) (touched_store v new s x k) ∙ start_kept t
+
+  -- the free chunks are those of before
+  same_free : (c : Chunk) → In (chunks_of v) c → is_free (get_or new c.start 0) ≡ is_free (get_or v.words c.start 0)
+  same_free c m =
+      free_told heap_to new (length v.words) (chunks_of v) c k.rewrites.row m ∙ ap not (ap is_start (k.rewrites.cell c.start) ∙ start_kept c.start)
+      ∙ sym (free_told heap_to v.words (length v.words) (chunks_of v) c (order v k.sound) m)
+
+  among : (c : Chunk) → In (old_row v.words v.spaces) c → In (chunks_of v) c
+  among c m = in_left (old_row v.words v.spaces) (young_row v.words v.spaces) c m
+
+  same_runs : free_runs new (old_row new v.spaces) ≡ free_runs v.words (old_row v.words v.spaces)
+  same_runs = ap (free_runs new) (same_rows v new s x k).0.old ∙ free_runs_same v.words new (old_row v.words v.spaces) (λ c m. same_free c (among c m))
+
+  -- no word of a free chunk is written
+  apart : (c : Chunk) → In (chunks_of v) c → is_free (get_or v.words c.start 0) ≡ true → c.start ≢ s
+  apart c m free e = false≢true (sym (free_told heap_to v.words (length v.words) (chunks_of v) c (order v k.sound) m ∙ ap not (ap (starts_at v) e ∙ was)) ∙ free)
+
+  same_word : (j : ℕ) → 1 ≤ cover (free_runs v.words (old_row v.words v.spaces)) j → get_or new j 0 ≡ get_or v.words j 0
+  same_word j some =
+      let h = covered_by v.words (old_row v.words v.spaces) j some in
+      let m = among h.chunk h.inside in
+      other_words v new s x k h.chunk m (apart h.chunk m h.free) j h.from h.to
+
+  pub touched_lists : (free : FreeLists) → HasFreeLists v free → HasFreeLists (touched v new s x k) free
+  touched_lists free l = subst (λ runs. Lists new free runs) (sym same_runs) (keeps_lists v.words new free (free_runs v.words (old_row v.words v.spaces)) l k.long same_word)
+
+  pub touched_tables : ((t : ℕ) → is_ordinary (with_cell (store_of v) s x) t ≡ is_ordinary (store_of v) t) → SameTables v (touched v new s x k)
+  unfolding ordinary_starts
+  touched_tables ordinary = record {
+    long = k.long;
+    starts = touched_starts;
+    lists = touched_lists;
+    count =
+        ap (λ (h : Store). length (ordinary_starts h)) (touched_store v new s x k)
+        ∙ ap (λ (ts : List ℕ). length ts) (filter_agree (is_ordinary (with_cell (store_of v) s x)) (is_ordinary (store_of v)) ordinary (store_of v).starts);
+  }
+
+-- the parts of a heap with other words, which are whole and whose tables are the same
+pub parts_with : (p : HeapParts) → ArePartsOfHeap p → (v u : View) → view_of p ≡ v → (new : List ℕ) → view_of (record p { region = new }) ≡ u → IsWhole u → SameTables v u → ArePartsOfHeap (record p { region = new })
+parts_with p k v u same new seen whole tables = record {
+  whole = subst (λ (x : View). IsWhole x) (sym seen) whole;
+  map = record {
+    starts = λ t. k.map.starts t ∙ ap (λ (x : View). starts_at x t) same ∙ sym (tables.starts t) ∙ ap (λ (x : View). starts_at x t) (sym seen);
+    covers = k.map.covers ∙ ap (λ (x : View). length x.words) same ∙ sym tables.long ∙ ap (λ (x : View). length x.words) (sym seen);
+  };
+  free_chunks = record {
+    lists = subst (λ (x : View). HasFreeLists x p.free) (sym seen) (tables.lists p.free (subst (λ (x : View). HasFreeLists x p.free) same k.free_chunks.lists));
+  };
+  objects = record {
+    count = k.objects.count ∙ ap (λ (x : View). length (ordinary_starts (store_of x))) same ∙ sym tables.count ∙ ap (λ (x : View). length (ordinary_starts (store_of x))) (sym seen);
+  };
+}
