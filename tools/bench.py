@@ -141,10 +141,24 @@ def make_objects(program, folder, runs, count=1_000_000):
     os.remove(image)
 
 
+def exchange_objects(program, folder, runs):
+    """Exchanges the same two objects over and over, of equal words and of others, and fresh objects of other words, with room for all copies."""
+    front = ["special s", "fetch c s 3", "newold a c 1", "newold b c 1", "newold d c 2"]
+    script = os.path.join(folder, "becoming.script")
+    words = [program, "replay", "base.image", "becoming.script", "--room", "67108864"]
+    for label, count, lines in [
+        ("1,000,000 become of two, equal words", 1_000_000, ["become a b"]),
+        ("1,000,000 become of two, other words", 1_000_000, ["become a d"]),
+        ("200,000 become of fresh objects, other words", 600_000, ["newold a c 1", "newold d c 2", "become a d"]),
+    ]:
+        write_lines(script, count, front, lines)
+        measure(label, words, ["wc", "-l", "becoming.script"], count / 1e6, "Mlines", folder, runs)
+
+
 def main():
     parser = argparse.ArgumentParser(description=__doc__.splitlines()[0])
     parser.add_argument("--runs", type=int, default=5)
-    parser.add_argument("--only", default="", help="load, lines, making")
+    parser.add_argument("--only", default="", help="load, lines, making, becoming")
     parser.add_argument("--program", default=os.path.join(TOP, "spur"))
     given = parser.parse_args()
     program = os.path.abspath(given.program)
@@ -159,6 +173,8 @@ def main():
             run_lines(program, folder, given.runs)
         if not only or "making" in only:
             make_objects(program, folder, given.runs)
+        if not only or "becoming" in only:
+            exchange_objects(program, folder, given.runs)
 
 
 if __name__ == "__main__":

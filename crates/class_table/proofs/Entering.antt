@@ -2,8 +2,6 @@
 use Rattle.std.proofs.Common.{◌≡◌, ◌≢◌, ◌<◌, ◌≤◌, ◌/◌, ◌||◌, eqb, ℕ, true, false, not, cond, [], ◌∷◌, refl, ap, sym, ◌∙◌, Option, Some, None, arith}
 use Rattle.std.proofs.lemmas.Bool.{false≢true, ne_eqb, eqb-false, lt-leb, le-leb, or_parts}
 use Rattle.std.specs.Option.{is_none, unwrap_or}
-use Rattle.std.specs.Prelude.{Result, Ok, Err, IsErrAnd}
-use Rattle.std.specs.Result.{result_err}
 use Rattle.std.specs.Cmp.{nat_cmp_total}
 use Rattle.std.specs.FinMap.{get, insert, get-insert}
 use Rattle.std.specs.FinSet.{contains}
@@ -13,7 +11,7 @@ use Rattle.spur_graph.specs.declared.answer.Refusal.{Refusal}
 use Rattle.spur_graph.specs.declared.answer.Refusal.TheVariants as r
 use Rattle.spur_graph.specs.Value.{is_immediate, name_of}
 use Rattle.spur_graph.specs.Node.{Node}
-use Rattle.spur_graph.specs.Graph.{Graph, node, blank, with_node}
+use Rattle.spur_graph.specs.Graph.{Graph, node, node_at, blank, with_node}
 use Rattle.spur_graph.specs.Room.{Room}
 use Rattle.spur_graph.specs.Refusals.{Row, first, test, is_special, has_hash, no_index, no_page}
 use Rattle.spur_graph.specs.Hashes.{free_index, first_entered, entered}
@@ -22,19 +20,13 @@ use Rattle.spur_graph.specs.Heaps.{View, heap_graph, heap_room}
 use Rattle.heap_cells.proofs.Finding.{same_key}
 use Rattle.spur_heap.specs.Views.{IsOrdinary, node_in}
 use Rattle.spur_heap.specs.Entering.{CanEnter}
-use Rattle.spur_heap.proofs.NodesAt.{node_there}
-use Rattle.class_table.specs.Rows.{node_at, enter_row}
+use Rattle.spur_heap.proofs.NodesAt.{node_there, node_named}
+use Rattle.class_table.specs.Rows.{enter_row}
 use Rattle.class_table.specs.Paging.{HasPlace}
-use Rattle.class_table.proofs.Hashing.{node_named}
 
 pub none_of : {X : Type 0} (o : Option X) → is_none o ≡ true → o ≡ None
 none_of None none = refl
 none_of (Some x) none = absurd (false≢true none)
-
--- a refusal that a result hands on
-pub handed_on : {X : Type 0} (result : Result X Refusal) (why : Refusal) → IsErrAnd result (λ e. e ≡ why) → Some why ≡ result_err result
-handed_on (Ok x) why is = absurd is
-handed_on (Err e) why is = ap (λ x. Some x) (sym is)
 
 -- a refusal that is none is passed over
 skip : (o : Option Refusal) (row : Row) → o ≡ None → first (o ∷ row) ≡ first row

@@ -1,5 +1,4 @@
 pub mod Hashing
-pub mod Entered
 pub mod FreeIndices
 pub mod Numbers
 pub mod Made

@@ -3,13 +3,13 @@ use Rattle.std.specs.Prelude.{ℕ, ◌≡◌, ◌*◌, Some, None}
 use Rattle.std.specs.FinMap.{get}
 use Rattle.spur_graph.specs.declared.answer.Value.{Value}
 use Rattle.spur_graph.specs.declared.answer.Value.TheVariants.{Ref}
-use Rattle.spur_graph.specs.Graph.{with_node}
+use Rattle.spur_graph.specs.Graph.{with_node, node_at}
 use Rattle.spur_graph.specs.Room.{placed, fresh_spot, fresh_words}
 use Rattle.spur_graph.specs.Serve.{Source, Served, serve}
 use Rattle.spur_graph.specs.Instances.{instance}
 use Rattle.spur_graph.specs.Heaps.{View, heap_graph, heap_room, heap_value}
 use Rattle.spur_heap.specs.Views.{IsGood}
-use Rattle.class_table.specs.Rows.{node_at, instance_slots}
+use Rattle.class_table.specs.Rows.{instance_slots}
 
 -- handles, mourners, the special objects, the bytes of the image's header, the limits and the phase are as before
 abbrev pub KeepsTables : View → View → Type 0

@@ -3,17 +3,12 @@ use Rattle.std.specs.Prelude.{ℕ, [], ◌∷◌}
 use Rattle.spur_graph.specs.declared.answer.Value.{Value}
 use Rattle.spur_graph.specs.declared.answer.Refusal.TheVariants as r
 use Rattle.spur_graph.specs.Value.{is_immediate, name_of}
-use Rattle.spur_graph.specs.Node.{Node}
-use Rattle.spur_graph.specs.Graph.{Graph, node}
+use Rattle.spur_graph.specs.Graph.{Graph, node_at}
 use Rattle.spur_graph.specs.Room.{Room, fresh_words}
 use Rattle.spur_graph.specs.Serve.{Source}
 use Rattle.spur_graph.specs.Instances.{layout_in, slots_for}
 use Rattle.spur_graph.specs.Hashes.{free_index}
 use Rattle.spur_graph.specs.Refusals.{Row, test, is_special, no_class, no_size, unserved, has_hash, no_index, no_page}
-
--- the node that a value names
-abbrev pub node_at : Graph → Value → Node
-node_at g v = node g (name_of v)
 
 -- the slots of an instance of the class, of this size
 abbrev pub instance_slots : Graph → Value → ℕ → ℕ

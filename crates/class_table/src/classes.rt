@@ -3,9 +3,9 @@ ghost use Rattle.std.specs.Prelude.{◌≡◌, ◌<◌, ◌≤◌, Some, None, I
 ghost use Rattle.std.specs.FinMap.{get};
 ghost use Rattle.std.specs.Result.{result_err};
 ghost use Rattle.spur_graph.specs.Value.{name_of};
-ghost use Rattle.spur_graph.specs.Refusals.{first, no_page, is_special};
+ghost use Rattle.spur_graph.specs.Refusals.{first, no_page};
 ghost use Rattle.spur_graph.specs.Hashes.{free_index, first_entered, entered};
-ghost use Rattle.spur_graph.specs.Instances.{is_entry, has_entered};
+ghost use Rattle.spur_graph.specs.Instances.{has_entered};
 ghost use Rattle.spur_graph.specs.Ordinary.{class_limit, is_no_index};
 ghost use Rattle.spur_graph.specs.Does.{room_entered};
 ghost use Rattle.spur_graph.specs.Heaps.{heap_graph, heap_room, heap_value};
@@ -14,7 +14,6 @@ ghost use Rattle.class_table.specs.Rows.{enter_row};
 ghost use Rattle.class_table.specs.Instantiating.{KeepsTables};
 ghost use Rattle.class_table.specs.Paging.{HasPlace};
 
-use crate::words::word_of;
 use spur_graph::Refusal;
 use spur_heap::Heap;
 
@@ -23,28 +22,6 @@ const FIRST_ENTERED: u32 = 1024;
 
 /// Class indices are below this.
 const CLASS_LIMIT: u32 = 1 << 22;
-
-/// Whether the class table has an object at an index.
-fn has_at(heap: &Heap, index: u32, start: usize) -> bool
-    requires there { IsOrdinary heap.now start }
-    requires below { index < class_limit }
-    ensures { result ≡ is_entry start (get (heap_graph heap.now).classes index) }
-{
-    if heap.is_unentered(index) {
-        return false;
-    }
-    heap.whole();
-    heap.class_at(index) == word_of(heap, start)
-}
-
-/// Whether an object is an entered class: it has a hash, and the class table has it at that index.
-pub(crate) fn is_entered(heap: &Heap, start: usize) -> bool
-    requires there { IsOrdinary heap.now start }
-    ensures { result ≡ has_entered (heap_graph heap.now) start }
-{
-    let hash = heap.header(start).hash() as u32;
-    hash != 0 && has_at(heap, hash, start)
-}
 
 /// The class index of the instances of an entered class: its hash.
 pub(crate) fn index_of(heap: &Heap, class: usize) -> u32
@@ -56,15 +33,6 @@ pub(crate) fn index_of(heap: &Heap, class: usize) -> u32
 {
     heap.whole();
     heap.header(class).hash() as u32
-}
-
-/// Whether an object is nil, false or true.
-fn is_special(heap: &Heap, start: usize) -> bool
-    requires there { IsOrdinary heap.now start }
-    ensures { result ≡ is_special (heap_graph heap.now) start }
-{
-    let word = word_of(heap, start);
-    word == heap.nil() || word == heap.no() || word == heap.yes()
 }
 
 /// The least index from 1,024 on that has no entry.
@@ -112,7 +80,7 @@ pub fn enter(heap: &mut Heap, object: u64) -> Result<u32, Refusal>
     ensures tables { KeepsTables heap.old heap.new }
 {
     let start = heap.object(object)?;
-    if is_special(heap, start) {
+    if heap.is_special(start) {
         return Err(Refusal::Special);
     }
     if heap.header(start).hash() != 0 {

@@ -12,9 +12,8 @@ ghost use Rattle.class_table.specs.Rows.{instance_row};
 ghost use Rattle.class_table.specs.Instantiating.{Instantiates, KeepsTables};
 ghost use Rattle.class_table.specs.Layouts.{HasLayout};
 
-use crate::classes::{index_of, is_entered};
+use crate::classes::index_of;
 use crate::layout::Layout;
-use crate::words::word_of;
 use immediates::{Kind, kind};
 use spur_graph::Refusal;
 use spur_heap::{Heap, Space};
@@ -43,7 +42,7 @@ fn instance_layout(heap: &Heap, class: usize) -> Result<Layout, Refusal>
     ensures refusal { no_class (heap_graph heap.now) class ≡ result_err result }
     ensures layout { IfOk result (HasLayout (heap_graph heap.now) class) }
 {
-    if !is_entered(heap, class) {
+    if !heap.is_entered(class) {
         return Err(Refusal::Class);
     }
     match layout_of(heap, class) {
@@ -72,7 +71,7 @@ pub fn instantiate(heap: &mut Heap, space: Space, class: u64, n: u128) -> Result
     let n = n as usize;
     let index = index_of(heap, class);
     match heap.allocate(space, index, layout.format_for(n), layout.slots_for(n)) {
-        Ok(start) => Ok(word_of(heap, start)),
+        Ok(start) => Ok(heap.word_of(start)),
         Err(full) => Err(Refusal::Full(full)),
     }
 }

@@ -13,7 +13,6 @@ mod classes;
 mod hashes;
 mod instances;
 mod layout;
-mod words;
 
 pub use classes::enter;
 pub use hashes::identity_hash;

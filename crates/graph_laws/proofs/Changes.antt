@@ -1,6 +1,5 @@
 -- What a command does to states that differ in names alone leaves them so.
-use Rattle.std.proofs.Common.{◌≡◌, ◌≢◌, ◌≤◌, ℕ, Bool, true, false, cond, if◌then◌else◌, ◌||◌, ◌+◌, refl, sym, ap, ◌∙◌, subst, arith, inl, inr, Some, None}
-use Rattle.std.proofs.lemmas.Bool.{cases_eq, eq-eqb, ne_eqb}
+use Rattle.std.proofs.Common.{◌≡◌, ◌≢◌, ◌≤◌, ℕ, Bool, true, false, cond, if◌then◌else◌, ◌||◌, ◌+◌, refl, sym, ap, ◌∙◌, subst, arith, Some, None}
 use Rattle.std.proofs.lemmas.Option.{none-some}
 use Rattle.std.specs.Option.{option_map}
 use Rattle.std.specs.Ordering.{nat_cmp, eq_by_cmp}
@@ -62,10 +61,10 @@ module _ {G H : Graph} {p back : ℕ → ℕ} (k : Iso G H p back) where
     hash_state = k.hash_state;
   }
 
-  same_key : (a b : ℕ) → eq_by_cmp nat_cmp (p a) (p b) ≡ eq_by_cmp nat_cmp a b
+  pub same_key : (a b : ℕ) → eq_by_cmp nat_cmp (p a) (p b) ≡ eq_by_cmp nat_cmp a b
   same_key a b = unsigned_tied (p a) (p b) ∙ same_name k a b ∙ sym (unsigned_tied a b)
 
-  same_noded : (a : ℕ) (n : Node) → Iso (with_node G a n) (with_node H (p a) (rename_node p n)) p back
+  pub same_noded : (a : ℕ) (n : Node) → Iso (with_node G a n) (with_node H (p a) (rename_node p n)) p back
   same_noded a n = record {
     left = k.left;
     right = k.right;
@@ -137,7 +136,7 @@ same_entered {G} {H} {p} k i a = record {
 }
 
 -- a fresh object stands in the same spot under both names
-same_placed : {R S : Room} {p : ℕ → ℕ} (back : ℕ → ℕ) → ((b : ℕ) → back (p b) ≡ b) → SameRoom R S p → (a : ℕ) (spot : Spot) → SameRoom (placed R a spot) (placed S (p a) spot) p
+pub same_placed : {R S : Room} {p : ℕ → ℕ} (back : ℕ → ℕ) → ((b : ℕ) → back (p b) ≡ b) → SameRoom R S p → (a : ℕ) (spot : Spot) → SameRoom (placed R a spot) (placed S (p a) spot) p
 same_placed {R} {S} {p} back left k a spot = record {
   spots = λ b.
       get-insert nat_cmp_total S.spots (p a) spot (p b)

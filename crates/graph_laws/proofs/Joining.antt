@@ -11,22 +11,22 @@ use Rattle.spur_graph.specs.Room.{Room}
 use Rattle.spur_graph.specs.State.{State}
 use Rattle.spur_graph.specs.Step.{SameRoom, Renamed}
 
-map-twice : {X Y Z : Type 0} (f : X → Y) (g : Y → Z) (h : X → Z) → ((x : X) → g (f x) ≡ h x) → (xs : List X) → map g (map f xs) ≡ map h xs
+pub map-twice : {X Y Z : Type 0} (f : X → Y) (g : Y → Z) (h : X → Z) → ((x : X) → g (f x) ≡ h x) → (xs : List X) → map g (map f xs) ≡ map h xs
 map-twice f g h same [] = refl
 map-twice f g h same (x ∷ xs) = λ i. same x i ∷ map-twice f g h same xs i
 
-option-twice : {X Y Z : Type 0} (f : X → Y) (g : Y → Z) (h : X → Z) → ((x : X) → g (f x) ≡ h x) → (o : Option X) → option_map g (option_map f o) ≡ option_map h o
+pub option-twice : {X Y Z : Type 0} (f : X → Y) (g : Y → Z) (h : X → Z) → ((x : X) → g (f x) ≡ h x) → (o : Option X) → option_map g (option_map f o) ≡ option_map h o
 option-twice f g h same None = refl
 option-twice f g h same (Some x) = ap Some (same x)
 
 module _ (p q : ℕ → ℕ) where
-  rename-twice : (v : Value) → rename q (rename p v) ≡ rename (λ a. q (p a)) v
+  pub rename-twice : (v : Value) → rename q (rename p v) ≡ rename (λ a. q (p a)) v
   rename-twice (Int n) = refl
   rename-twice (Char n) = refl
   rename-twice (Float w) = refl
   rename-twice (Ref a) = refl
 
-  rename_node-twice : (n : Node) → rename_node q (rename_node p n) ≡ rename_node (λ a. q (p a)) n
+  pub rename_node-twice : (n : Node) → rename_node q (rename_node p n) ≡ rename_node (λ a. q (p a)) n
   rename_node-twice n = ap (λ vs. record n { pointers = vs }) (map-twice (rename p) (rename q) (rename (λ a. q (p a))) rename-twice n.pointers)
 
 pub joined_graphs : {F G H : Graph} {p pb q qb : ℕ → ℕ} → Iso F G p pb → Iso G H q qb → Iso F H (λ a. q (p a)) (λ a. pb (qb a))

@@ -1,5 +1,5 @@
 -- A state speaks only of names that have nodes, and goes on so.
-use Rattle.std.proofs.Common.{◌≡◌, ◌≢◌, ◌⊎◌, ℕ, Bool, true, false, cond, if◌then◌else◌, ◌||◌, ◌<◌, ◌≤◌, ◌+◌, List, length, get_or, replicate, set, refl, sym, ap, ◌∙◌, subst, inl, inr, arith, Some, None, Option}
+use Rattle.std.proofs.Common.{◌≡◌, ◌≢◌, ◌⊎◌, ℕ, Bool, true, false, cond, if◌then◌else◌, ◌||◌, ◌<◌, ◌≤◌, List, length, get_or, replicate, set, refl, sym, ap, ◌∙◌, subst, inl, inr, arith, Some, None, Option}
 use Rattle.std.proofs.lemmas.Bool.{cases_eq, cases_lt, ne_eqb, eq-eqb, true≢false}
 use Rattle.std.proofs.lemmas.Option.{none-some, same_Some}
 use Rattle.std.proofs.lemmas.List.{get_or-replicate, length-replicate, length-set, get_or-set_same, get_or-set_other}
@@ -15,7 +15,7 @@ use Rattle.spur_graph.specs.declared.answer.Value.{Value}
 use Rattle.spur_graph.specs.declared.answer.Value.TheVariants.{Int, Char, Float, Ref}
 use Rattle.spur_graph.specs.Value.{named_by, is_immediate}
 use Rattle.spur_graph.specs.Node.{Node}
-use Rattle.spur_graph.specs.Graph.{Graph, Handle, handle_cmp, bind, unbind, with_node, held, waiting, HasNode}
+use Rattle.spur_graph.specs.Graph.{Graph, Handle, handle_cmp, with_node, held, waiting, HasNode}
 use Rattle.spur_graph.specs.Handles.{handles_total}
 use Rattle.spur_graph.specs.Bytes.{Text}
 use Rattle.spur_graph.specs.Room.{Room, Spot, placed, is_old}

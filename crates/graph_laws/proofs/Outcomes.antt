@@ -1,9 +1,9 @@
 -- States that differ in names alone give the same answer to a line.
-use Rattle.std.proofs.Common.{◌≡◌, ◌+◌, ℕ, zero, suc, Bool, true, false, ◌||◌, if◌then◌else◌, nat_eq, List, [], ◌∷◌, length, map, replicate, slice_index, slice_index_or, slice_set, refl, sym, ap, ◌∙◌, subst, arith, inl, inr, Some, None, Option}
+use Rattle.std.proofs.Common.{◌≡◌, ◌+◌, ℕ, zero, suc, Bool, true, false, ◌||◌, if◌then◌else◌, nat_eq, List, ◌∷◌, length, map, replicate, slice_index, slice_index_or, slice_set, refl, sym, ap, ◌∙◌, subst, arith, inl, inr, Some, None, Option}
 use Rattle.std.proofs.lemmas.List.{length-map, map-set}
 use Rattle.std.proofs.Math.ListN.{get_or-map}
-use Rattle.std.specs.Option.{option_map, unwrap_or}
-use Rattle.std.specs.List.{All, flat_map, sum}
+use Rattle.std.specs.Option.{option_map}
+use Rattle.std.specs.List.{flat_map, sum}
 use Rattle.std.specs.FinMap.{get, len}
 use Rattle.std.specs.FinSet.{contains}
 use Rattle.object_header.specs.Formats.{pointer_slots_of}
@@ -18,16 +18,15 @@ use Rattle.spur_graph.specs.Value.{is_immediate, same_value}
 use Rattle.spur_graph.specs.Node.{Node}
 use Rattle.spur_graph.specs.Names.{rename, rename_node}
 use Rattle.spur_graph.specs.Bytes.{Text}
-use Rattle.spur_graph.specs.Form.{Form, Special, Nil, Yes, No, Int, Char, Float, Copy, Drop, Kind, Class, Size, Fetch, Store, Unit, SetUnit, Same, New, NewOld, Enter, Hash, Stat}
-use Rattle.spur_graph.specs.Graph.{blank, HasNode}
-use Rattle.spur_graph.specs.Room.{Room, fresh_words, fresh_spot}
+use Rattle.spur_graph.specs.Form.{Form, Special, Nil, Yes, No, Int, Char, Float, Copy, Drop, Kind, Class, Size, Fetch, Store, Unit, SetUnit, Same, New, NewOld, Enter, Hash, Become, Forward, Pin, Unpin, ReadOnly, Writable, Stat}
+use Rattle.spur_graph.specs.Room.{fresh_words, fresh_spot}
 use Rattle.spur_graph.specs.FreeSizes.{largest}
-use Rattle.spur_graph.specs.Serve.{Source, Anywhere, OldAlone, Served, serve}
+use Rattle.spur_graph.specs.Serve.{Source, Anywhere, OldAlone, serve}
 use Rattle.spur_graph.specs.Instances.{fresh_node, layout_in, slots_for, format_for, instance}
 use Rattle.spur_graph.specs.Hashes.{next_state, drawn, hash_now, with_hash, hashed, free_index, entered}
-use Rattle.spur_graph.specs.State.{State, value_at, name_at, node_of_handle, with_graph, with_fresh, made, slots_asked, words_asked}
+use Rattle.spur_graph.specs.State.{State, value_at, name_at, node_of_handle, with_graph, with_changed, made, slots_asked, words_asked}
 use Rattle.spur_graph.specs.Shows.{shown, stat_of}
-use Rattle.spur_graph.specs.Classes.{class_index, class_value}
+use Rattle.spur_graph.specs.Classes.{class_value}
 use Rattle.spur_graph.specs.Refusals.{test}
 use Rattle.spur_graph.specs.Refused.{row, refused}
 use Rattle.spur_graph.specs.Does.{Outcome, ok, new_instance, room_entered, outcome, Is, Does}
@@ -35,18 +34,17 @@ use Rattle.spur_graph.specs.Step.{long, syntax, refusal, done, Answers, RefusesL
 use Rattle.graph_laws.specs.FixedNames.{AnswersAlike}
 use Rattle.spur_graph.proofs.HandleMaps.{as_many_handles}
 use Rattle.graph_laws.proofs.Values.{layout_in-renamed, free_index-renamed, value_at-renamed, name_at-renamed, node_of_handle-renamed, same_value-renamed, shown-renamed, class_value-renamed}
-use Rattle.graph_laws.proofs.Refusals.{none_in_row, no_immediate, refused-renamed}
+use Rattle.graph_laws.proofs.RowParts.{none_in_row, no_immediate}
+use Rattle.graph_laws.proofs.Refusals.{refused-renamed}
+use Rattle.graph_laws.proofs.Alikes.{Alike, mapped-alike}
+use Rattle.graph_laws.proofs.Becoming.{flagged-renamed}
+use Rattle.graph_laws.proofs.BecomeOutcomes.{exchange-alike, forward-alike, pin-alike}
+use Rattle.graph_laws.proofs.NamedOutcomes.{two_bare, node_there, stays_named}
 use Rattle.graph_laws.proofs.Changes.{bound-renamed, dropped-renamed, changed-renamed, state-renamed, entered-renamed, made-renamed, q}
 use Rattle.graph_laws.proofs.Fresh.{fresh-iso, fresh-room}
 use Rattle.graph_laws.proofs.Counts.{len-renamed, waiting-renamed}
 use Rattle.graph_laws.proofs.Rooms.{with_places, served_with, serve-same, served-keeps, entered-same, entered-keeps}
-use Rattle.graph_laws.proofs.Named.{IsNamed, all_named, value_at-named, name_at-named, slot-named, set-named, replicate-named, names_nothing, has_name, get-here, bound-named, dropped-named, changed-named, room-named, state-named, entry-named, fresh-named}
-
--- the outcomes answer alike and lead to states that differ in names alone, or there is none
-abbrev Alike : Option Outcome → Option Outcome → Type 0
-Alike None u = u ≡ None
-Alike (Some a) None = ⊥
-Alike (Some a) (Some b) = (b.0 ≡ a.0) × Renamed a.1 b.1
+use Rattle.graph_laws.proofs.Named.{IsNamed, all_named}
 
 -- a value in each place
 map-replicate : {X Y : Type 0} (f : X → Y) (n : ℕ) (x : X) → map f (replicate n x) ≡ replicate n (f x)
@@ -56,11 +54,6 @@ map-replicate f (suc n) x = ap (λ ys. f x ∷ ys) (map-replicate f n x)
 -- a fresh node under other names
 pub fresh_node-renamed : (p : ℕ → ℕ) (nil class format slots : ℕ) → fresh_node (p nil) class format slots ≡ rename_node p (fresh_node nil class format slots)
 fresh_node-renamed p nil class format slots = ap (λ vs. record (fresh_node (p nil) class format slots) { pointers = vs }) (sym (map-replicate (rename p) (pointer_slots_of format slots 0) (Ref nil)))
-
--- outcomes of what is served, or is there, on both sides
-mapped-alike : {X : Type 0} (o u : Option X) (f g : X → Outcome) (w : X → X) → u ≡ option_map w o → ((x : X) → o ≡ Some x → Alike (Some (f x)) (Some (g (w x)))) → Alike (option_map f o) (option_map g u)
-mapped-alike None u f g w e alike = ap (option_map g) e
-mapped-alike (Some x) u f g w e alike = subst (λ z. Alike (Some (f x)) (option_map g z)) (sym e) (alike x refl)
 
 module _ {s t : State} (named : IsNamed s) (k : Renamed s t) (m : ℕ) where
   abbrev corresponds : Text → Type 0
@@ -87,9 +80,8 @@ module _ {s t : State} (named : IsNamed s) (k : Renamed s t) (m : ℕ) where
       (λ j. record (same j) { pointers = slice_set (same j).pointers i (e j) })
       ∙ ap (λ vs. record n { pointers = vs }) (sym (map-set (rename k.p) n.pointers i v))
 
-  -- the name of a handle that is no immediate has a node
   there : (o : Text) → is_immediate (value_at s.graph m o) ≡ false → get s.graph.nodes (name_at s.graph m o) ≡ Some (node_of_handle s.graph m o)
-  there o bare = let n = name_at-named named m o bare in n.1 ∙ ap Some (sym (ap (λ x. unwrap_or x blank) n.1))
+  there o bare = node_there named m o bare
 
   -- an instance under the names with the fresh one
   instance-alike : (c : Text) (n : ℕ) → is_immediate (value_at s.graph m c) ≡ false → instance t.graph (node_of_handle t.graph m c) n ≡ rename_node (q k named t.graph.next (k.next t.graph.next (omega arith))) (instance s.graph (node_of_handle s.graph m c) n)
@@ -187,6 +179,11 @@ module _ {s t : State} (named : IsNamed s) (k : Renamed s t) (m : ℕ) where
     past = (k.room.rest i).past_used;
   }
 
+  -- a flag of an object is set or cleared
+  flag-alike : (o : Text) (f : Node → Node) → is_immediate (value_at s.graph m o) ≡ false → ((n : Node) → f (rename_node k.p n) ≡ rename_node k.p (f n)) → Renamed (with_changed s (name_at s.graph m o) f) (with_changed t (name_at t.graph m o) f)
+  flag-alike o f bare same = subst (λ a. Renamed (with_changed s (name_at s.graph m o) f) (with_changed t a f)) (sym (name_at-renamed k.graph m o bare))
+      (flagged-renamed k (name_at s.graph m o) (node_of_handle s.graph m o) f (there o bare) same s.room t.room k.room)
+
   -- what a command answers and does, where nothing refuses it
   alike : (form : Form) → refused s m form ≡ None → refused t m form ≡ None → Alike (outcome s m form) (outcome t m form)
   alike (Special h) e f = (refl, bound-renamed k m h s.graph.special t.graph.special k.graph.special)
@@ -231,94 +228,21 @@ module _ {s t : State} (named : IsNamed s) (k : Renamed s t) (m : ℕ) where
   alike (NewOld h c n) e f = new-alike h c n OldAlone (no_immediate _ (none_in_row (row s m (NewOld h c n)) e).1.1.0)
   alike (Enter c) e f = enter-alike c (no_immediate _ (none_in_row (row s m (Enter c)) e).1.0)
   alike (Hash o) e f = let bare = no_immediate _ (none_in_row (row s m (Hash o)) e).1.0 in (ap answers.Number (hash_now-alike o bare), hashed-alike o bare)
+  alike (Become a b) e f = let bare = two_bare s.graph m a b (none_in_row (row s m (Become a b)) e).1.0 in
+      exchange-alike k (name_at s.graph m a) (name_at s.graph m b) (name_at t.graph m a) (name_at t.graph m b) (node_of_handle s.graph m a) (node_of_handle s.graph m b)
+      (there a bare.0) (there b bare.1) (name_at-renamed k.graph m a bare.0) (name_at-renamed k.graph m b bare.1)
+  alike (Forward a b hash) e f = let bare = two_bare s.graph m a b (none_in_row (row s m (Forward a b hash)) e).1.0 in (
+    refl,
+    forward-alike k (name_at s.graph m a) (name_at s.graph m b) (name_at t.graph m a) (name_at t.graph m b) (node_of_handle s.graph m b) hash
+        (there b bare.1) (name_at-renamed k.graph m a bare.0) (name_at-renamed k.graph m b bare.1),
+  )
+  alike (Pin o) e f = let bare = no_immediate _ (none_in_row (row s m (Pin o)) e).1.0 in
+      pin-alike k (name_at s.graph m o) (name_at t.graph m o) (node_of_handle s.graph m o) (there o bare) (name_at-renamed k.graph m o bare)
+  alike (Unpin o) e f = (refl, flag-alike o (λ n. record n { pinned = false }) (no_immediate _ (none_in_row (row s m (Unpin o)) e).1.0) (λ n. refl))
+  alike (ReadOnly o) e f = (refl, flag-alike o (λ n. record n { readonly = true }) (no_immediate _ (none_in_row (row s m (ReadOnly o)) e).1.0) (λ n. refl))
+  alike (Writable o) e f = (refl, flag-alike o (λ n. record n { readonly = false }) (no_immediate _ (none_in_row (row s m (Writable o)) e).1.0) (λ n. refl))
   alike Stat e f = (ap answers.Stat stat-alike, k)
   alike form e f = refl
-
-  -- whatever a command leads to speaks of names that have nodes
-  is-named : (answer : Answer) (new : State) (o : Outcome) → IsNamed o.1 → Is (Some o) answer new → IsNamed new
-  is-named answer new o known is = subst IsNamed (sym is.1) known
-
-  pointers_of : (o : Text) → is_immediate (value_at s.graph m o) ≡ false → All (HasNode s.graph) (node_of_handle s.graph m o).pointers
-  pointers_of o bare = named.pointers (name_at s.graph m o) (node_of_handle s.graph m o) (there o bare)
-
-  class-named : (v : Value) → HasNode s.graph (class_value s.graph v)
-  class-named v = by (get s.graph.classes (class_index s.graph v)) refl
-    where
-      by : (o : Option Value) → get s.graph.classes (class_index s.graph v) ≡ o → HasNode s.graph (unwrap_or o (Ref s.graph.nil))
-      by None e = named.nil
-      by (Some w) e = named.classes (class_index s.graph v) w e
-
-  new-named : (h c : Text) (n : ℕ) (source : Source) (answer : Answer) (new : State)
-      → Is (option_map (λ served. ok (new_instance s m h c n served)) (serve source s.room (words_asked s.graph m c n))) answer new → IsNamed new
-  new-named h c n source answer new is = by (serve source s.room (words_asked s.graph m c n)) refl is
-    where
-      by : (o : Option Served) → serve source s.room (words_asked s.graph m c n) ≡ o → Is (option_map (λ served. ok (new_instance s m h c n served)) o) answer new → IsNamed new
-      by None e is = absurd is
-      by (Some served) e is =
-          let node = instance s.graph (node_of_handle s.graph m c) n in
-          let spot = fresh_spot served.space (slots_asked s.graph m c n) in
-          let fresh = fresh-named (room-named named served.room (served-keeps source s.room (words_asked s.graph m c n) served e)) node spot (replicate-named s.graph _ (Ref s.graph.nil) named.nil) in
-          is-named answer new (ok (new_instance s m h c n served)) (bound-named fresh m h (Ref s.graph.next) (has_name (with_fresh s.graph node) s.graph.next node (get-here s.graph s.graph.next node))) is
-
-  hash-named : (o : Text) (hash : ℕ) → is_immediate (value_at s.graph m o) ≡ false → IsNamed (with_graph s (with_hash s.graph (name_at s.graph m o) hash))
-  hash-named o hash bare = changed-named named (name_at s.graph m o) (node_of_handle s.graph m o) (record (node_of_handle s.graph m o) { hash = hash }) (there o bare) (pointers_of o bare)
-
-  hashed-named : (o : Text) → is_immediate (value_at s.graph m o) ≡ false → IsNamed (with_graph s (hashed s.graph (name_at s.graph m o)))
-  hashed-named o bare = by (nat_eq (node_of_handle s.graph m o).hash 0)
-    where
-      by : (b : Bool) → IsNamed (with_graph s (if b then record (with_hash s.graph (name_at s.graph m o) (drawn s.graph.hash_state)) { hash_state = next_state s.graph.hash_state } else s.graph))
-      by true = state-named (hash-named o (drawn s.graph.hash_state) bare) (next_state s.graph.hash_state)
-      by false = named
-
-  enter-named : (c : Text) (answer : Answer) (new : State) → is_immediate (value_at s.graph m c) ≡ false → Is (outcome s m (Enter c)) answer new → IsNamed new
-  enter-named c answer new bare is = by (room_entered s.room (free_index s.graph)) refl is
-    where
-      i : ℕ
-      i = free_index s.graph
-
-      by : (o : Option Room) → room_entered s.room (free_index s.graph) ≡ o
-          → Is (option_map (λ room. (answers.Number (free_index s.graph), record s { graph = entered s.graph (name_at s.graph m c) (free_index s.graph); room = room })) o) answer new → IsNamed new
-      by None e is = absurd is
-      by (Some room) e is =
-          let hash = hash-named c i bare in
-          let class = record (node_of_handle s.graph m c) { hash = i } in
-          let entry = entry-named hash i (Ref (name_at s.graph m c)) (has_name (with_hash s.graph (name_at s.graph m c) i) (name_at s.graph m c) class (get-here s.graph (name_at s.graph m c) class)) in
-          let keep = entered-keeps s.room room i e in
-          subst IsNamed (sym is.1) (room-named entry room (record { spots = keep.spots; old_names = keep.old_names }))
-
-  stays_named : (form : Form) (answer : Answer) (new : State) → refused s m form ≡ None → Is (outcome s m form) answer new → IsNamed new
-  stays_named (Special h) answer new e is = is-named answer new _ (bound-named named m h s.graph.special named.special) is
-  stays_named (Nil h) answer new e is = is-named answer new _ (bound-named named m h (Ref s.graph.nil) named.nil) is
-  stays_named (Yes h) answer new e is = is-named answer new _ (bound-named named m h (Ref s.graph.yes) named.yes) is
-  stays_named (No h) answer new e is = is-named answer new _ (bound-named named m h (Ref s.graph.no) named.no) is
-  stays_named (Int h n) answer new e is = is-named answer new _ (bound-named named m h (values.Int n) (names_nothing s.graph (values.Int n) refl)) is
-  stays_named (Char h n) answer new e is = is-named answer new _ (bound-named named m h (values.Char n) (names_nothing s.graph (values.Char n) refl)) is
-  stays_named (Float h w) answer new e is = is-named answer new _ (bound-named named m h (values.Float w) (names_nothing s.graph (values.Float w) refl)) is
-  stays_named (Copy h o) answer new e is = is-named answer new _ (bound-named named m h (value_at s.graph m o) (value_at-named named m o)) is
-  stays_named (Drop h) answer new e is = is-named answer new _ (dropped-named named m h) is
-  stays_named (Kind o) answer new e is = is-named answer new _ named is
-  stays_named (Class h o) answer new e is = is-named answer new _ (bound-named named m h (class_value s.graph (value_at s.graph m o)) (class-named (value_at s.graph m o))) is
-  stays_named (Size o) answer new e is = is-named answer new _ named is
-  stays_named (Fetch h o i) answer new e is =
-      let bare = no_immediate _ (none_in_row (row s m (Fetch h o i)) e).1.1.0 in
-      is-named answer new _ (bound-named named m h _ (slot-named named (node_of_handle s.graph m o).pointers i (pointers_of o bare))) is
-  stays_named (Store o i v) answer new e is =
-      let bare = no_immediate _ (none_in_row (row s m (Store o i v)) e).1.0 in
-      is-named answer new _ (changed-named named (name_at s.graph m o) (node_of_handle s.graph m o)
-      (record (node_of_handle s.graph m o) { pointers = slice_set (node_of_handle s.graph m o).pointers i (value_at s.graph m v) }) (there o bare)
-      (set-named s.graph (node_of_handle s.graph m o).pointers i (value_at s.graph m v) (value_at-named named m v) (pointers_of o bare))) is
-  stays_named (Unit o i) answer new e is = is-named answer new _ named is
-  stays_named (SetUnit o i u) answer new e is =
-      let bare = no_immediate _ (none_in_row (row s m (SetUnit o i u)) e).1.0 in
-      is-named answer new _ (changed-named named (name_at s.graph m o) (node_of_handle s.graph m o)
-      (record (node_of_handle s.graph m o) { units = slice_set (node_of_handle s.graph m o).units i u }) (there o bare) (pointers_of o bare)) is
-  stays_named (Same a b) answer new e is = is-named answer new _ named is
-  stays_named (New h c n) answer new e is = new-named h c n Anywhere answer new is
-  stays_named (NewOld h c n) answer new e is = new-named h c n OldAlone answer new is
-  stays_named (Enter c) answer new e is = enter-named c answer new (no_immediate _ (none_in_row (row s m (Enter c)) e).1.0) is
-  stays_named (Hash o) answer new e is = is-named answer new _ (hashed-named o (no_immediate _ (none_in_row (row s m (Hash o)) e).1.0)) is
-  stays_named Stat answer new e is = is-named answer new _ named is
-  stays_named form answer new e is = absurd is
 
   -- what refuses a command while it is carried out is the same under other names; no command has such refusals
   later-there : (form : Form) (why : Refusal) → RefusesLater s m form why → RefusesLater t m form why
@@ -347,7 +271,7 @@ module _ {s t : State} (named : IsNamed s) (k : Renamed s t) (m : ℕ) (form : F
   does-alike : (answer : Answer) (new : State) → Passes t m form → Does t m form answer new → (end : State) × Does s m form answer end × Renamed end new × IsNamed end
   does-alike answer new passes (inl is) =
       let found = had (outcome s m form) (outcome t m form) answer new (alike named k m form (passes-alike passes).0 passes.0) is in
-      (found.0, inl found.1, found.2, stays_named named k m form answer found.0 (passes-alike passes).0 found.1)
+      (found.0, inl found.1, found.2, stays_named named m form answer found.0 (passes-alike passes).0 found.1)
   does-alike answer new passes (inr chooses) = absurd chooses
 
 -- the same line has the same answer, and leads to a state that speaks of names that have nodes too

@@ -1,7 +1,7 @@
 -- What graphs that differ in names alone have of a value, a node and a handle.
 use Rattle.std.proofs.Common.{◌≡◌, ℕ, ◌-◌, zero, suc, Bool, false, not, ◌==◌, ◌&&◌, ◌||◌, if◌then◌else◌, nat_eq, List, [], ◌∷◌, map, get_or, refl, sym, ap, ◌∙◌, inl, inr, Some, None, Option}
 use Rattle.std.proofs.lemmas.Bool.{cases_eq, eq-eqb, ne_eqb, true≢false}
-use Rattle.std.specs.Prelude.{ℤ, pos}
+use Rattle.std.specs.Prelude.{pos}
 use Rattle.std.specs.Option.{unwrap_or, option_map, is_some, is_none}
 use Rattle.std.specs.List.{find, range_with_len}
 use Rattle.std.specs.FinMap.{get}

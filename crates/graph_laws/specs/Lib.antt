@@ -1,1 +1,2 @@
 pub mod FixedNames
+pub mod OutOfPlace

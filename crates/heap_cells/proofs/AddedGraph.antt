@@ -1,5 +1,5 @@
 -- The graph of a store with an object more: one node more, and else the same.
-use Rattle.std.proofs.Common.{◌≡◌, ◌≢◌, ℕ, zero, suc, Bool, true, false, cond, not, ◌&&◌, ◌==◌, ◌%◌, ◌<◌, List, [], ◌∷◌, map, take, length, get_or, refl, sym, ap, ◌∙◌, subst, arith, inl, inr, Some, None, Option}
+use Rattle.std.proofs.Common.{◌≡◌, ℕ, suc, true, cond, not, ◌&&◌, ◌==◌, ◌%◌, ◌<◌, List, [], ◌∷◌, map, length, get_or, refl, sym, ap, ◌∙◌, subst, arith, inl, inr, Some, None, Option}
 use Rattle.std.proofs.lemmas.Bool.{cases_Bool, cases_eq, lt-ltb, not-false, and_parts, or_cases, or_right}
 use Rattle.std.proofs.lemmas.List.{length-take-le, get_or-take}
 use Rattle.std.proofs.lemmas.List.Elements.{filter_agree}
@@ -8,18 +8,17 @@ use Rattle.std.specs.List.{filter, range_with_len}
 use Rattle.std.specs.Ordering.{nat_cmp}
 use Rattle.std.specs.FinMap.{FinMap, get, insert, from_entries, same_map}
 use Rattle.object_header.specs.Chunks.{Chunk}
-use Rattle.spur_graph.specs.declared.answer.Value.{Value}
 use Rattle.spur_graph.specs.declared.answer.Value.TheVariants.{Ref}
 use Rattle.spur_graph.specs.Value.{is_immediate_word}
 use Rattle.spur_graph.specs.Graph.{Handle, handle_cmp, with_node}
 use Rattle.spur_graph.specs.Handles.{handles_total}
-use Rattle.spur_graph.specs.Cells.{Body, Store, is_start, is_there, body_of, pointer_count, pointers, units, first, lead, cell_in, store_in}
-use Rattle.spur_graph.specs.Ordinary.{class_limit, is_at, passes, body_at, is_internal, is_ordinary, is_good_reference, is_good_word, is_bad_slot, has_page, entry, ordinary_starts}
+use Rattle.spur_graph.specs.Cells.{Body, Store, is_start, is_there, body_of, pointer_count, pointers, units, first, lead, store_in}
+use Rattle.spur_graph.specs.Ordinary.{class_limit, is_at, passes, body_at, is_internal, is_ordinary, is_good_reference, is_good_word, has_page, entry, ordinary_starts}
 use Rattle.spur_graph.specs.CellGraph.{reference, read, node_of, nodes_of, has_class, classes_of}
 use Rattle.spur_graph.specs.Heaps.{own_name, handle_values, graph_in, mourners_of}
 use Rattle.spur_graph.proofs.HandleMaps.{exact_handles}
 use Rattle.heap_cells.specs.Rows.{starts_of}
-use Rattle.heap_cells.proofs.Adding.{Adds, added-here, added-other, added-final, added-ordinary, ordinary-other, ordinary-kept, reference-kept, apart_there, lead-same, has_page-same, entry-same, entry_lead-same}
+use Rattle.heap_cells.proofs.Adding.{Adds, added-here, added-other, added-final, added-ordinary, ordinary-other, reference-kept, apart_there, lead-same, has_page-same, entry-same, entry_lead-same}
 use Rattle.heap_cells.proofs.Bodies.{pointers_fit}
 use Rattle.heap_cells.proofs.CellKinds.{there_starts}
 use Rattle.heap_cells.proofs.Cutting.{start-in}

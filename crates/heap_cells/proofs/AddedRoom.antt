@@ -1,6 +1,6 @@
 -- The room of a store with an object more: at the low end of a free chunk of old space, or behind the used eden.
-use Rattle.std.proofs.Common.{◌≡◌, ◌≢◌, ℕ, suc, Bool, true, false, cond, not, ◌&&◌, ◌||◌, ◌==◌, ◌+◌, ◌-◌, eqb, ltb, List, [], ◌∷◌, ◌++◌, map, length, refl, sym, ap, ◌∙◌, subst, arith, inl, inr, append_assoc, length-append}
-use Rattle.std.proofs.lemmas.Bool.{false≢true, cases_Bool, eq-eqb, ne_eqb, and_parts, and_left, and_right, or_right, not-true}
+use Rattle.std.proofs.Common.{◌≡◌, ◌≢◌, ℕ, suc, Bool, true, false, cond, not, ◌&&◌, ◌||◌, ◌==◌, ◌+◌, ◌-◌, eqb, ltb, List, [], ◌∷◌, ◌++◌, map, length, refl, sym, ap, ◌∙◌, arith, inl, inr, append_assoc, length-append}
+use Rattle.std.proofs.lemmas.Bool.{cases_Bool, eq-eqb, ne_eqb, and_parts, and_left, and_right, or_right, not-true}
 use Rattle.std.proofs.lemmas.List.{map-append}
 use Rattle.std.proofs.lemmas.List.Elements.{filter-append}
 use Rattle.std.proofs.lemmas.List.Sums.{sum_by-cons}
@@ -14,7 +14,7 @@ use Rattle.spur_graph.specs.Room.{Space, Spot, Old, Eden, Past, placed}
 use Rattle.spur_graph.specs.FreeSizes.{ascending, shortened}
 use Rattle.spur_graph.specs.Cells.{Body, Store, Empty, body_of, is_start, is_moved, is_there, final}
 use Rattle.spur_graph.specs.Ordinary.{page_places, body_at, is_ordinary, is_internal}
-use Rattle.spur_graph.specs.CellRoom.{is_free, free_sizes, ordinary_chunks, internal_chunks}
+use Rattle.spur_graph.specs.CellRoom.{is_free, free_sizes, internal_chunks}
 use Rattle.spur_graph.specs.HeapRoom.{spot_in, spots_of, is_reached, room_in}
 use Rattle.heap_cells.specs.Rows.{starts_of}
 use Rattle.heap_cells.proofs.Adding.{Adds, added-here, added-other, added-final, added-internal, added-ordinary, ordinary-other, nil_slot-same, apart, apart_there}
@@ -69,7 +69,7 @@ module _ {X : Type 0} (p q : X → Bool) (xs rest ys : List X) (f c : X) (on_xs 
       over [] on = ap (λ b. b || list_any q (rest ++ ys)) c_off ∙ skip rest off ∙ any_members q p ys on_ys ∙ sym (ap (λ b. b || list_any p ys) f_off)
       over (z ∷ zs) on = λ i. on z (inl refl) i || over zs (λ y m. on y (inr m)) i
 
-any-has : {X : Type 0} (p : X → Bool) (xs : List X) (x : X) → In xs x → p x ≡ true → list_any p xs ≡ true
+pub any-has : {X : Type 0} (p : X → Bool) (xs : List X) (x : X) → In xs x → p x ≡ true → list_any p xs ≡ true
 any-has p [] x k on = absurd k
 any-has p (y ∷ ys) x k on = elim k [
   | inl e ↦ ap (λ b. b || list_any p ys) (ap p e ∙ on)
@@ -80,7 +80,7 @@ any-none : {X : Type 0} (p : X → Bool) (xs : List X) → ((x : X) → In xs x 
 any-none p [] off = refl
 any-none p (x ∷ xs) off = ap (λ b. b || list_any p xs) (off x (inl refl)) ∙ any-none p xs (λ y m. off y (inr m))
 
-count-members : {X : Type 0} (p q : X → Bool) (xs : List X) → ((x : X) → In xs x → p x ≡ q x) → count_by p xs ≡ count_by q xs
+pub count-members : {X : Type 0} (p q : X → Bool) (xs : List X) → ((x : X) → In xs x → p x ≡ q x) → count_by p xs ≡ count_by q xs
 count-members p q [] e = refl
 count-members p q (x ∷ xs) e =
     sum_by-cons (λ y. cond (p y) 1 0) x xs ∙ (λ i. cond (e x (inl refl) i) 1 0 + count-members p q xs (λ y m. e y (inr m)) i) ∙ sym (sum_by-cons (λ y. cond (q y) 1 0) x xs)

@@ -1,6 +1,6 @@
 -- The sizes of free chunks in ascending order: which of them serves a need, and what they are once it is served.
-use Rattle.std.proofs.Common.{◌≡◌, ◌≢◌, ◌⊎◌, ℕ, Bool, true, false, cond, ◌-◌, ◌<◌, ◌≤◌, eqb, leb, ltb, List, [], ◌∷◌, ◌++◌, refl, sym, ap, ◌∙◌, subst, inl, inr, arith, Some, None}
-use Rattle.std.proofs.lemmas.Bool.{false≢true, cases_Bool, cases_eq, cases_lt, le-leb, lt-leb, eq-eqb, ne_eqb}
+use Rattle.std.proofs.Common.{◌≡◌, ◌≢◌, ◌⊎◌, ℕ, Bool, true, false, cond, ◌+◌, ◌-◌, ◌<◌, ◌≤◌, ltb, List, [], ◌∷◌, ◌++◌, refl, sym, ap, ◌∙◌, subst, inl, inr, arith, Some, None}
+use Rattle.std.proofs.lemmas.Bool.{false≢true, cases_Bool, cases_eq, cases_lt, le-leb, lt-leb, lt-ltb, le-ltb, eq-eqb, ne_eqb}
 use Rattle.std.specs.List.{find}
 use Rattle.spur_graph.specs.FreeSizes.{among, ascending, without, shortened}
 use Rattle.heap_cells.proofs.Members.{In}
@@ -73,6 +73,22 @@ served_sizes n size xs ys =
     left : (b : Bool) → cond b (among (size - n) (ascending (xs ++ ys))) (ascending (xs ++ ys)) ≡ ascending (xs ++ (cond b ((size - n) ∷ []) [] ++ ys))
     left true = sym (ascending-more xs ys (size - n))
     left false = refl
+
+-- a need after another leaves a rest where both together do
+pub cut_twice : (a b size : ℕ) → a < size → ltb b (size - a) ≡ ltb (a + b) size
+cut_twice a b size low = elim (cases_lt b (size - a)) [
+  | inl l ↦ lt-ltb b (size - a) l ∙ sym (lt-ltb (a + b) size (omega (arith, l, low)))
+  | inr ge ↦ le-ltb b (size - a) ge ∙ sym (le-ltb (a + b) size (omega (arith, ge, low)))
+]
+
+-- and a chunk that is shortened twice is shortened by both
+pub shortened_twice : (a b size : ℕ) (sizes : List ℕ) → a < size → shortened b (size - a) (shortened a size sizes) ≡ shortened (a + b) size sizes
+shortened_twice a b size sizes low =
+    let gone : List ℕ = without size sizes in
+    let rest : size - a - b ≡ size - (a + b) = omega (arith) in
+    ap (shortened b (size - a)) (ap (λ x. cond x (among (size - a) gone) gone) (lt-ltb a size low))
+    ∙ (λ i. cond (ltb b (size - a)) (among (size - a - b) (without-among (size - a) gone i)) (without-among (size - a) gone i))
+    ∙ (λ i. cond (cut_twice a b size low i) (among (rest i) gone) gone)
 
 -- ---- the least that passes a test is the first
 

@@ -133,6 +133,13 @@ module _ {words new : List ℕ} {limits : Limits} {p : Spaces} {c : Chunk} (k : 
     ]
   ]
 
+  -- and what was there is one of the rows
+  pub still_in : (d : Chunk) → In (rows words p) d → In (rows new (grown p c.size)) d
+  still_in d m = subst (λ cs. In cs d) (sym rows_more) (elim (in_either front (past_row words p) d (subst (λ cs. In cs d) rows_before m)) [
+    | inl a ↦ in_left front (c ∷ past_row words p) d a
+    | inr a ↦ in_right front (c ∷ past_row words p) d (inr a)
+  ])
+
   pub young_before : (d : Chunk) → In (young_row new (grown p c.size)) d → (c ≡ d) ⊎ In (young_row words p) d
   young_before d m =
       let is : young_row new (grown p c.size) ≡ eden_row words p ++ c ∷ past_row words p = (λ x. eden_more x ++ past_same x) ∙ append_assoc (eden_row words p) (c ∷ []) (past_row words p) in

@@ -26,6 +26,7 @@ pub mod Wholes
 pub mod Writing
 pub mod ObjectReads
 pub mod ObjectWrites
+pub mod ObjectRewrites
 pub mod Appending
 pub mod Spaced
 pub mod WholeClosed
@@ -41,3 +42,15 @@ pub mod Tables
 pub mod FreeSizes
 pub mod AddedGraph
 pub mod AddedRoom
+pub mod Recounted
+pub mod RecountedRoom
+pub mod Keeping
+pub mod AddedTwice
+pub mod Retargeting
+pub mod Forwarding
+pub mod ForwardedClasses
+pub mod ForwardedSound
+pub mod Redirecting
+pub mod Reaching
+pub mod ForwardedRoom
+pub mod ForwarderWrites

@@ -45,7 +45,7 @@ unfolding read_cell
 object_there to words c b e = from_object (fields_of (get_or words c.start 0)) (start_named to words (get_or words (c.start + 1) 0)) (slots_of words c) b e
 
 -- the cell by its parts
-read-by : (to : ℕ → Option ℕ) (words : List ℕ) (c : Chunk) (w : ℕ) (ws : List ℕ) → get_or words c.start 0 ≡ w → slots_of words c ≡ ws
+pub read-by : (to : ℕ → Option ℕ) (words : List ℕ) (c : Chunk) (w : ℕ) (ws : List ℕ) → get_or words c.start 0 ≡ w → slots_of words c ≡ ws
     → read_cell to words c ≡ cell_from (fields_of w) (start_named to words (get_or words (c.start + 1) 0)) ws
 unfolding read_cell
 read-by to words c w ws a b =
@@ -78,7 +78,7 @@ module _ (to : ℕ → Option ℕ) (words : List ℕ) (end : ℕ) (cs : List Chu
       (one-rewritten to words new end cs c t (listed cs c m) len inside (keeps-same words new c (same c.at (inl l1)) head))
 
   -- a header of the same count tells the same chunk
-  header-keeps : (w : ℕ) → c.start < length words → count_of w ≡ count_of (get_or words c.start 0) → KeepsChunk words (set words c.start w) c
+  pub header-keeps : (w : ℕ) → c.start < length words → count_of w ≡ count_of (get_or words c.start 0) → KeepsChunk words (set words c.start w) c
   header-keeps w low count =
       let s = stands words 0 end cs c t m in
       let h = shape words c s.chunk in

@@ -91,7 +91,7 @@ cell-same to words new (c ∷ cs) s same = elim (cases_eq c.start s) [
 ]
 
 -- a start is that of one chunk
-one-chunk : (words : List ℕ) (at end : ℕ) (cs : List Chunk) (c d : Chunk) → InOrder words at end cs → In cs c → In cs d → c.start ≡ d.start → c ≡ d
+pub one-chunk : (words : List ℕ) (at end : ℕ) (cs : List Chunk) (c d : Chunk) → InOrder words at end cs → In cs c → In cs d → c.start ≡ d.start → c ≡ d
 one-chunk words at end [] c d t m n e = absurd m
 one-chunk words at end (x ∷ cs) c d t m n e =
     let f = head words at end x cs t in

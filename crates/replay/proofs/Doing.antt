@@ -1,8 +1,9 @@
--- What commands do, by the values of their handles.
-use Rattle.std.proofs.Common.{◌≡◌, inl, inr, arith, ℕ, ◌^◌, refl, ap, sym, subst, ◌∙◌, Option, Some, None, set}
+-- Commands that bind a handle to a value.
+use Rattle.std.proofs.Common.{◌≡◌, inl, inr, arith, ℕ, ◌^◌, refl, ap, sym, subst, ◌∙◌, Option, Some, None}
 use Rattle.std.proofs.lemmas.Bool.{lt-leb}
 use Rattle.std.proofs.lemmas.Bool.Decides.{leb_tells}
-use Rattle.std.specs.Prelude.{◌≤◌, ◌-◌, [], ◌∷◌, length, ◌↔◌, Bool, Result, Ok, Err, IfOk, IsOk, ℤ, pos, negsuc}
+use Rattle.std.specs.Prelude.{◌≤◌, ◌-◌, [], ◌∷◌, ◌↔◌, Result, Ok, Err, IfOk, IsOk, ℤ, pos, negsuc}
+use Rattle.std.specs.Option.{unwrap_or}
 use Rattle.std.proofs.Math.Facts.{ltb_yes, yes_ltb, leb_yes, yes_leb}
 use Rattle.spur_graph.specs.declared.answer.Value.{Value}
 use Rattle.spur_graph.specs.declared.answer.Value.TheVariants.{Ref}
@@ -13,21 +14,19 @@ use Rattle.spur_graph.specs.declared.answer.Refusal.{Refusal}
 use Rattle.spur_graph.specs.declared.answer.Refusal.TheVariants as r
 use Rattle.std.specs.Result.{result_err}
 use Rattle.spur_graph.specs.Bytes.{Text}
-use Rattle.spur_graph.specs.Value.{IsValue, value_of, same_value}
-use Rattle.spur_graph.specs.Node.{Node}
-use Rattle.spur_graph.specs.Graph.{Graph, node, with_node, held, bind}
-use Rattle.spur_graph.specs.Form.{Form, Kind, Size, Same, Store, SetUnit, Fetch, Class}
-use Rattle.spur_graph.specs.declared.answer.Shown.{Shown}
-use Rattle.spur_graph.specs.Shows.{shown}
+use Rattle.spur_graph.specs.Value.{IsValue, value_of}
+use Rattle.spur_graph.specs.Graph.{Graph, bind}
+use Rattle.spur_graph.specs.Form.{Form}
 use Rattle.spur_graph.specs.State.{State, bound, with_graph}
 use Rattle.spur_graph.specs.Refusals.{first, handles, int_range}
-use Rattle.spur_graph.specs.Does.{Is, outcome, ok, Does}
+use Rattle.spur_graph.specs.Does.{Is, outcome, ok}
+use Rattle.spur_graph.specs.Cells as cells
+use Rattle.spur_graph.specs.CellGraph.{read, reference}
+use Rattle.spur_graph.specs.Heaps.{View, own_name}
 use Rattle.immediates.specs.declared.word_kind.Range.{Range}
-use Rattle.spur_graph.specs.Classes.{class_value}
-use Rattle.spur_graph.specs.Heaps.{View, heap_graph, heap_room}
-use Rattle.replay.specs.Sessions.{graph_of, room_of, value_in, over}
-use Rattle.replay.proofs.Values.{valued}
-use Rattle.replay.specs.Commands.{ObeysExactly, Becomes, node_of, no_word, value_row}
+use Rattle.spur_heap.specs.Views.{store}
+use Rattle.replay.specs.Sessions.{graph_of, value_in, over}
+use Rattle.replay.specs.Commands.{ObeysExactly, Becomes, no_word, value_row}
 
 -- the state over a graph
 pub state_moved : (old new : View) (s : State) (g : Graph) → Becomes old new g → over new s ≡ with_graph (over old s) g
@@ -41,6 +40,11 @@ binds old new k h v w form (Ok answer) says same did = λ s.
     let P : Option (Answer × State) → Type 0 = λ o. Is o answer (over new s) in
     inl (subst P (sym (says s)) (did.0, state_moved old new s (bind (graph_of old) k h w) (did.1.0 ∙ ap (bind (graph_of old) k h) same, did.1.1)))
 binds old new k h v w form (Err e) says same did = tt
+
+-- the value of a word that has this one whatever references name
+valued : (v : View) (word : ℕ) (x : Value) → ((named : ℕ → Value) → value_of named word ≡ Some x) → value_in v word ≡ x
+unfolding read
+valued v word x says = ap (λ o. unwrap_or o (Ref (cells.first (store v) 0))) (says (reference own_name (store v)))
 
 -- a command that binds a handle to the word of a value, if it has one
 pub binds_value : (old new : View) (k : ℕ) (h : Text) (w : Value) (form : Form) (value : Result ℕ Range) (result : Result Answer Refusal)
@@ -57,46 +61,6 @@ binds_value old new k h w form value (Err e) says valued_so row did = tt
 
 pub int_valued : (m n : ℤ) (word : Result ℕ Range) → m ≡ n → IfOk word (λ w. (named : ℕ → Value) → value_of named w ≡ Some (values.Int m)) → IfOk word (λ w. (named : ℕ → Value) → value_of named w ≡ Some (values.Int n))
 int_valued m n word same is = let P : ℤ → Type 0 = λ z. IfOk word (λ w. (named : ℕ → Value) → value_of named w ≡ Some (values.Int z)) in subst P same is
-
--- the class of a value
-pub class_says : (s : State) (k : ℕ) (h o : Text) (v : Value) → held s.graph k o ≡ Some v → outcome s k (Class h o) ≡ Some (ok (bound s k h (class_value s.graph v)))
-class_says s k h o v is = rw (is) refl
-
-pub fetch_does : (s : State) (k : ℕ) (h o : Text) (i : ℕ) (v w : Value) (new : State) → held s.graph k o ≡ Some v → outcome s k (Fetch h o i) ≡ Some (ok (bound s k h w)) → new ≡ bound s k h w → Does s k (Fetch h o i) answers.Done new
-fetch_does s k h o i v w new is says becomes =
-    let P : Option (Answer × State) → Type 0 = λ out. Is out answers.Done new in
-    inl (subst P (sym says) (refl, becomes))
-
-pub kind_does : (s : State) (k : ℕ) (o : Text) (v : Value) (t : Shown) → held s.graph k o ≡ Some v → t ≡ shown s.graph v → Does s k (Kind o) (answers.Shown t) s
-kind_does s k o v t held_is is = rw (held_is) (inl (ap (λ u. answers.Shown u) is, refl))
-
--- how many slots and units the object of a handle has
-pub size_does : (v : View) (k : ℕ) (o : Text) (u : Value) (result : Result Answer Refusal) → held (graph_of v) k o ≡ Some u
-    → IfOk result (λ answer. answer ≡ answers.Size (length (node_of (graph_of v) u).pointers) (length (node_of (graph_of v) u).units)) → IfOk result (λ answer. ObeysExactly v k (Size o) answer v)
-size_does v k o u (Ok answer) held_is is = λ s. rw (held_is) (inl (is, refl))
-size_does v k o u (Err why) held_is is = tt
-
-pub same_does : (s : State) (k : ℕ) (a b : Text) (v w : Value) (t : Bool) → held s.graph k a ≡ Some v → held s.graph k b ≡ Some w → same_value v w ≡ t → Does s k (Same a b) (answers.Truth t) s
-same_does s k a b v w t left right is = rw (left, right) (inl (ap (λ u. answers.Truth u) (sym is), refl))
-
--- a command that changes a node
-pub store_does : (s new : State) (k : ℕ) (o v : Text) (i a : ℕ) (u w : Value) (n : Node) → held s.graph k o ≡ Some u → u ≡ Ref a → node s.graph a ≡ n → held s.graph k v ≡ Some w
-    → new ≡ with_graph s (with_node s.graph a (record n { pointers = set n.pointers i w })) → Does s k (Store o i v) answers.Done new
-store_does s new k o v i a u w n object is named value becomes =
-    rw (object, is, value) (inl (refl, becomes ∙ ap (λ (m : Node). with_graph s (with_node s.graph a (record m { pointers = set m.pointers i w }))) (sym named)))
-
-pub setunit_does : (s new : State) (k : ℕ) (o : Text) (i a value : ℕ) (u : Value) (n : Node) → held s.graph k o ≡ Some u → u ≡ Ref a → node s.graph a ≡ n
-    → new ≡ with_graph s (with_node s.graph a (record n { units = set n.units i value })) → Does s k (SetUnit o i value) answers.Done new
-setunit_does s new k o i a value u n object is named becomes =
-    rw (object, is) (inl (refl, becomes ∙ ap (λ (m : Node). with_graph s (with_node s.graph a (record m { units = set m.units i value }))) (sym named)))
-
--- a node of the heap was changed
-pub node_changed : (old new : View) (a : ℕ) (n : Node) → heap_graph new ≡ with_node (heap_graph old) a n → heap_room new ≡ heap_room old → Becomes old new (with_node (graph_of old) a n)
-unfolding graph_of room_of
-node_changed old new a n is room = (is, room)
-
-pub becomes : (old new : View) (g : Graph) {h : Graph} → Becomes old new h → h ≡ g → Becomes old new g
-becomes old new g is same = (is.0 ∙ same, is.1)
 
 -- a SmallInteger's number is in range exactly where it has a word
 int_word : (n : ℤ) (word : Result ℕ Range) → (IsOk word ↔ IsValue (values.Int n)) → no_word word ≡ int_range n

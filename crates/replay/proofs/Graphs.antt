@@ -1,24 +1,19 @@
 -- What a heap's graph tells of the words of the heap.
-use Rattle.std.proofs.Common.{◌≡◌, inl, inr, ◌≤◌, ◌<◌, ℕ, List, [], ◌∷◌, length, map, get_or, refl, ap, sym, ◌∙◌, Option, Some, None, Bool, true, false, cond, arith}
-use Rattle.std.proofs.lemmas.Bool.{le-leb, lt-leb, false≢true, cases_Bool, eqb-true, and_parts}
-use Rattle.std.specs.Prelude.{nat_le, nat_eq, ◌==◌, ◌&&◌, not, IfOk, IsSome}
+use Rattle.std.proofs.Common.{◌≡◌, ◌≤◌, ◌<◌, ℕ, List, [], ◌∷◌, refl, ap, sym, ◌∙◌, Option, Some, None, Bool, true, false}
+use Rattle.std.proofs.lemmas.Bool.{le-leb, lt-leb}
+use Rattle.std.specs.Prelude.{nat_le, ◌&&◌, IfOk, IsSome}
 use Rattle.std.specs.Result.{result_err}
-use Rattle.std.specs.Option.{option_map, unwrap_or, ok_or, is_none, is_some}
-use Rattle.std.specs.Cmp.{nat_cmp_total}
-use Rattle.std.specs.FinMap.{get, len, insert, remove, get-from_entries}
-use Rattle.spur_graph.specs.declared.answer.Value.{Value}
-use Rattle.spur_graph.specs.declared.answer.Value.TheVariants.{Ref}
+use Rattle.std.specs.Option.{option_map, ok_or, is_none, is_some}
+use Rattle.std.specs.FinMap.{get, len, insert, remove}
 use Rattle.spur_graph.specs.declared.answer.Refusal.{Refusal}
 use Rattle.spur_graph.specs.declared.answer.Refusal.TheVariants as r
-use Rattle.spur_graph.specs.Graph.{node, blank, held, bind, unbind}
-use Rattle.spur_graph.specs.Cells.{Store, first, is_there, cell_in, read_cell}
-use Rattle.spur_graph.specs.Ordinary.{body_at, is_ordinary, is_internal, ordinary_starts}
-use Rattle.spur_graph.specs.CellGraph as cells
+use Rattle.spur_graph.specs.Graph.{held, bind, unbind}
+use Rattle.spur_graph.specs.Cells.{first}
 use Rattle.spur_graph.specs.Refusals.{test, unknown, handles}
-use Rattle.spur_graph.specs.Heaps.{View, IsWhole, chunks_of, heap_graph, heap_to, own_name}
+use Rattle.spur_graph.specs.Heaps.{View, IsWhole, heap_graph}
 use Rattle.spur_heap.specs.Views.{IsOrdinary, store, node_in}
 use Rattle.replay.specs.Sessions.{graph_of, room_of, value_in}
-use Rattle.replay.specs.Commands.{Becomes, Keeps, node_of}
+use Rattle.replay.specs.Commands.{Becomes, Keeps}
 use Rattle.handle_table.proofs.Bound.{remove-absent}
 use Rattle.heap_cells.proofs.HandleValues.{get-handle_values}
 use Rattle.replay.proofs.Held.{len-handle_values, handle_values-insert, handle_values-remove}
@@ -112,13 +107,6 @@ pub get_there : (v : View) (s : ℕ) → IsOrdinary v s → get (graph_of v).nod
 unfolding graph_of
 get_there v s there = nodes.get_there v s there
 
-pub node_there : (v : View) (s : ℕ) → IsOrdinary v s → node (graph_of v) s ≡ node_in v s
-unfolding graph_of
-node_there v s there = nodes.node_there v s there
-
-pub node_named : (v : View) (s : ℕ) (x : Value) → IsOrdinary v s → x ≡ Ref s → node_of (graph_of v) x ≡ node_in v s
-node_named v s x there is = ap (node_of (graph_of v)) is ∙ node_there v s there
-
 -- what the roots name
 pub nil_named : (v : View) → (graph_of v).nil ≡ first (store v) 0
 unfolding graph_of
@@ -135,16 +123,3 @@ yes_named v = refl
 pub special_named : (v : View) → (graph_of v).special ≡ value_in v v.special
 unfolding graph_of
 special_named v = refl
-
--- the parts of an object's node
-pub class-node : (v : View) (s : ℕ) → (node_in v s).class ≡ (body_at (store v) s).class
-unfolding cells.node_of
-class-node v s = refl
-
-pub format-node : (v : View) (s : ℕ) → (node_in v s).format ≡ (body_at (store v) s).format
-unfolding cells.node_of
-format-node v s = refl
-
-pub readonly-node : (v : View) (s : ℕ) → (node_in v s).readonly ≡ ((body_at (store v) s).readonly == 1)
-unfolding cells.node_of
-readonly-node v s = refl

@@ -1,10 +1,12 @@
 pub mod Held
-pub mod Leads
 pub mod Graphs
-pub mod RoomNames
-pub mod Values
 pub mod Rows
 pub mod Doing
+pub mod Settled
+pub mod Changed
+pub mod Unsettled
+pub mod Written
+pub mod Objects
 pub mod Steps
 pub mod Made
 pub mod ScriptLines

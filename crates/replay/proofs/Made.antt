@@ -1,45 +1,40 @@
 -- Objects that are made, classes that are entered, and hashes.
-use Rattle.std.proofs.Common.{◌≡◌, ◌≢◌, inl, inr, ◌≤◌, ◌<◌, ◌*◌, ℕ, [], ◌∷◌, length, refl, sym, ap, subst, ◌∙◌, arith, Option, Some, None}
+use Rattle.std.proofs.Common.{◌≡◌, inl, inr, ◌≤◌, ◌<◌, ℕ, [], ◌∷◌, length, refl, sym, ap, subst, ◌∙◌, arith, Some, None}
 use Rattle.std.proofs.Math.Bool.{or-false}
 use Rattle.std.proofs.lemmas.Bool.{cases_lt}
 use Rattle.std.proofs.lemmas.Option.{none-some}
-use Rattle.std.specs.Prelude.{Result, Ok, Err, IfOk}
-use Rattle.std.specs.Result.{result_err}
 use Rattle.std.specs.FinMap.{get, len}
 use Rattle.std.specs.List.{sum}
 use Rattle.std.specs.FinSet.{contains}
 use Rattle.spur_graph.specs.declared.answer.Value.{Value}
 use Rattle.spur_graph.specs.declared.answer.Value.TheVariants.{Ref}
-use Rattle.spur_graph.specs.declared.answer.Answer.{Answer}
 use Rattle.spur_graph.specs.declared.answer.Answer.TheVariants as answers
 use Rattle.spur_graph.specs.declared.answer.Refusal.{Refusal}
 use Rattle.spur_graph.specs.declared.answer.Refusal.TheVariants as r
 use Rattle.spur_graph.specs.Bytes.{Text}
 use Rattle.spur_graph.specs.Value.{is_immediate, name_of}
 use Rattle.spur_graph.specs.Node.{Node}
-use Rattle.spur_graph.specs.Graph.{Graph, IsClosed, held, bind, with_node, waiting}
+use Rattle.spur_graph.specs.Graph.{Graph, IsClosed, node_at, held, bind, with_node, waiting}
 use Rattle.spur_graph.specs.FreeSizes.{largest}
-use Rattle.spur_graph.specs.Names.{Iso, rename_node}
-use Rattle.spur_graph.specs.Room.{Room, placed, fresh_spot, fresh_words}
+use Rattle.spur_graph.specs.Names.{rename_node}
+use Rattle.spur_graph.specs.Room.{placed, fresh_spot, fresh_words}
 use Rattle.spur_graph.specs.Serve.{Source, Served, serve}
 use Rattle.spur_graph.specs.Instances.{fresh_node, layout_in, format_for, slots_for, instance}
 use Rattle.spur_graph.specs.Hashes.{hash_now, hashed, free_index, entered}
-use Rattle.spur_graph.specs.Form.{Form, New, NewOld, Enter, Hash, Stat}
-use Rattle.spur_graph.specs.State.{State, made, with_graph}
+use Rattle.spur_graph.specs.Form.{Enter, Hash, Stat}
+use Rattle.spur_graph.specs.State.{State, made}
 use Rattle.spur_graph.specs.State.{made as made_state}
-use Rattle.spur_graph.specs.Shows.{stat_of}
 use Rattle.spur_graph.specs.Refusals.{first, test, unknown, handles, is_special}
 use Rattle.spur_graph.specs.Refused.{refused}
-use Rattle.spur_graph.specs.Does.{Is, outcome, ok, room_entered, Does}
+use Rattle.spur_graph.specs.Does.{room_entered, Does}
 use Rattle.spur_graph.specs.Step.{SameRoom, Renamed}
 use Rattle.spur_graph.specs.Heaps.{View, IsWhole, heap_graph, heap_room, heap_value}
 use Rattle.spur_graph.proofs.Renaming.{itself}
 use Rattle.spur_heap.specs.declared.allocation.Space.{Space}
 use Rattle.spur_heap.specs.declared.allocation.Space.TheVariants as spaces
 use Rattle.spur_heap.specs.Allocating.{source_of}
-use Rattle.class_table.specs.Rows.{node_at, instance_slots, instance_row, enter_row}
+use Rattle.class_table.specs.Rows.{instance_slots, instance_row, enter_row}
 use Rattle.class_table.specs.Instantiating.{Instantiates, KeepsTables}
-use Rattle.graph_laws.specs.FixedNames.{HasAllNames}
 use Rattle.graph_laws.proofs.Named.{IsNamed, all_named, get-here}
 use Rattle.graph_laws.proofs.Changes.{made-renamed, q}
 use Rattle.graph_laws.proofs.Fresh.{fresh-iso, fresh-room}
@@ -48,8 +43,8 @@ use Rattle.graph_laws.proofs.Rooms.{served-keeps}
 use Rattle.replay.specs.Sessions.{graph_of, room_of, value_in, over}
 use Rattle.replay.specs.Commands.{Obeys, ObeysExactly, Becomes, Keeps, asked}
 use Rattle.replay.proofs.Graphs.{names_fresh, handles_counted}
-use Rattle.replay.proofs.RoomNames.{no_spot_without, no_old_name_without}
-use Rattle.replay.proofs.Rows.{alone}
+use Rattle.spur_heap.proofs.RoomNames.{no_spot_without, no_old_name_without}
+use Rattle.spur_graph.proofs.Refusing.{alone}
 use Rattle.replay.proofs.Steps.{unrenamed, over_is}
 
 -- ---- rows
@@ -105,12 +100,9 @@ unfolding graph_of
 same_handles old new source class n word made k h = ap (λ (g : Graph). handles g k h) made.graph
 
 -- a state over a heap speaks only of names that have nodes
-closed_graph : (v : View) → IsClosed (heap_graph v) → IsClosed (graph_of v)
-unfolding graph_of
-closed_graph v closed = closed
-
 names_there : (v : View) → IsClosed (heap_graph v) → IsWhole v → (s : State) → IsNamed (over v s)
-names_there v closed whole s = all_named (over v s) (record { closed = closed_graph v closed; spots = λ a none. no_spot_without v a none; old_names = λ a none. no_old_name_without v a none })
+unfolding graph_of room_of
+names_there v closed whole s = all_named (over v s) (record { closed = closed; spots = λ a none. no_spot_without v a none; old_names = λ a none. no_old_name_without v a none })
 
 -- what makes it, under the next name
 made_does : (s : State) (k : ℕ) (space : Space) (h c : Text) (n : ℕ) (v : Value) (served : Served) → held s.graph k c ≡ Some v → serve (source_of space) s.room (fresh_words (instance_slots s.graph v n)) ≡ Some served

@@ -17,7 +17,7 @@ use Rattle.spur_graph.specs.Does.{Does}
 use Rattle.spur_graph.specs.Step.{longest_line, Reads, Renamed, Answers, Step, long, syntax, refusal, done}
 use Rattle.spur_graph.specs.Heaps.{View, IsWhole}
 use Rattle.replay.specs.Sessions.{SessionView, SameRun, AreSeen, AreTold, Advances, graph_of, over, StandsFor}
-use Rattle.replay.specs.Commands.{AreAlike, IsOver, Replies, Steps, Keeps, FirstRefusal, Obeys, ObeysExactly}
+use Rattle.replay.specs.Commands.{AreAlike, IsOver, Replies, Steps, Same, Keeps, FirstRefusal, Obeys, ObeysExactly}
 use Rattle.replay.proofs.Graphs.{names_fresh}
 
 -- a state is itself under its own names
@@ -82,10 +82,10 @@ module _ (old new : View) (bytes : Text) (k : ℕ) (form : Form) (short : length
       (did.0, did.1, done_answer (over old s) did.0 bytes line k form answer short stands reads (passes s, did.2), did.3, did.4)
   done_replies (Err why) passes does = tt
 
-  pub refused_replies : (result : Result Answer Refusal) → FirstRefusal old k form (result_err result) → OnErr result (new ≡ old) → IfErr result (λ why. Replies old bytes (answers.Refused why) new)
+  pub refused_replies : (result : Result Answer Refusal) → FirstRefusal old k form (result_err result) → OnErr result (Same old new) → IfErr result (λ why. Replies old bytes (answers.Refused why) new)
   refused_replies (Ok answer) refuses same = tt
   refused_replies (Err why) refuses same = λ s line stands.
-      let stayed = refused_answer (over old s) (over new s) bytes line k form why short stands reads (refuses s) (ap (λ (v : View). over v s) same) in
+      let stayed = refused_answer (over old s) (over new s) bytes line k form why short stands reads (refuses s) (λ i. record s { graph = same.0 i; room = same.1 i }) in
       (over new s, over new s, stayed, inl refl, over_is new s)
 
 -- replies are steps where names are free

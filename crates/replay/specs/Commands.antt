@@ -1,29 +1,21 @@
--- What is done over a heap with a line and with a command, and what is asked of the values that commands work on.
-use Rattle.std.specs.Prelude.{◌≡◌, ◌<◌, ◌⊎◌, ℕ, length, true, List, [], ◌∷◌, Option, Some, None, Result, Ok, Err}
-use Rattle.std.specs.Option.{unwrap_or}
-use Rattle.spur_graph.specs.declared.answer.Value.{Value}
-use Rattle.spur_graph.specs.declared.answer.Value.TheVariants.{Ref}
+-- What is done over a heap with a line and with a command.
+use Rattle.std.specs.Prelude.{◌≡◌, ◌⊎◌, ℕ, true, false, Bool, List, [], ◌∷◌, Option, Some, None, Result, Ok, Err}
 use Rattle.spur_graph.specs.declared.answer.Answer.{Answer}
 use Rattle.spur_graph.specs.declared.answer.Refusal.{Refusal}
 use Rattle.spur_graph.specs.declared.answer.Refusal.TheVariants as r
 use Rattle.spur_graph.specs.Bytes.{Text}
-use Rattle.spur_graph.specs.Value.{named_by, is_immediate}
-use Rattle.spur_graph.specs.Node.{Node}
-use Rattle.spur_graph.specs.Graph.{Graph, node}
-use Rattle.spur_graph.specs.Form.{Form, New, NewOld}
+use Rattle.spur_graph.specs.Graph.{Graph}
+use Rattle.spur_graph.specs.Form.{Form, New, NewOld, ReadOnly, Writable}
 use Rattle.spur_graph.specs.State.{State}
-use Rattle.spur_graph.specs.Refusals.{Row, test, handles, raw_read, raw_write, raw_unit, index_in}
+use Rattle.spur_graph.specs.Refusals.{Row, handles}
 use Rattle.spur_graph.specs.Refused.{refused}
 use Rattle.spur_graph.specs.Does.{Does}
 use Rattle.spur_graph.specs.Step.{Answers, Step, Renamed}
 use Rattle.spur_graph.specs.Heaps.{View}
-use Rattle.object_header.specs.Formats.{is_method}
-use Rattle.spur_graph.specs.Ordinary.{is_good_reference}
-use Rattle.spur_heap.specs.Views.{IsOrdinary, node_in, store}
 use Rattle.spur_heap.specs.declared.allocation.Space.{Space}
 use Rattle.spur_heap.specs.declared.allocation.Space.TheVariants as spaces
 use Rattle.immediates.specs.declared.word_kind.Range.{Range}
-use Rattle.replay.specs.Sessions.{graph_of, room_of, value_in, over, StandsFor}
+use Rattle.replay.specs.Sessions.{graph_of, room_of, over, StandsFor}
 
 -- a state over a heap, with the files and the script of another
 pub record IsOver (v : View) (s t : State) : Type 0 where
@@ -51,6 +43,11 @@ Same old new = (graph_of new ≡ graph_of old) × (room_of new ≡ room_of old)
 abbrev pub Becomes : View → View → Graph → Type 0
 Becomes old new graph = (graph_of new ≡ graph) × (room_of new ≡ room_of old)
 
+-- handles were rewritten to where they lead, and nothing else changed
+pub record Settles (old new : View) : Type 0 where
+  pub graph : graph_of new ≡ graph_of old
+  pub rest : new ≡ record old { handles = new.handles }
+
 -- the bytes of the image's header, the limits and the phase are as before
 pub record Keeps (old new : View) : Type 0 where
   pub carried : new.carried ≡ old.carried
@@ -69,22 +66,6 @@ ObeysExactly old k form answer new = (s : State) → Does (over old s) k form an
 abbrev pub Obeys : View → ℕ → Form → Answer → View → Type 0
 Obeys old k form answer new = (s : State) → (exact t : State) × Does (over old s) k form answer exact × AreAlike exact t × IsOver new s t
 
--- the node that a value names
-abbrev pub node_of : Graph → Value → Node
-node_of g v = node g (unwrap_or (named_by v) 0)
-
--- the refusals of reading a pointer slot of a value, in their order
-abbrev pub slot_row : Graph → Value → ℕ → Row
-slot_row g v i = test (is_immediate v) r.Immediate ∷ raw_read (node_of g v) ∷ index_in (node_of g v).pointers i ∷ []
-
--- the refusals of writing a pointer slot of a value, in their order, but for a readonly object
-abbrev pub write_row : Graph → Value → ℕ → Row
-write_row g v i = test (is_immediate v) r.Immediate ∷ raw_write (node_of g v) i ∷ index_in (node_of g v).pointers i ∷ []
-
--- the refusals of reading a unit of a value, in their order
-abbrev pub unit_row : Graph → Value → ℕ → Row
-unit_row g v i = test (is_immediate v) r.Immediate ∷ raw_unit (node_of g v) ∷ index_in (node_of g v).units i ∷ []
-
 -- a value that has no word is out of range
 abbrev pub no_word : Result ℕ Range → Option Refusal
 no_word (Ok word) = None
@@ -94,30 +75,12 @@ no_word (Err e) = Some r.Range
 abbrev pub value_row : Graph → ℕ → Text → Result ℕ Range → Row
 value_row g k h value = handles g k h ∷ no_word value ∷ []
 
--- the word is no immediate: it leads to an ordinary object
-abbrev pub IsReference : View → ℕ → Type 0
-IsReference v word = is_good_reference (store v) word ≡ true
-
--- the word leads to the object that starts there
-pub record Names (v : View) (word start : ℕ) : Type 0 where
-  pub there : IsOrdinary v start
-  pub value : value_in v word ≡ Ref start
-  pub node : node_of (graph_of v) (value_in v word) ≡ node_in v start
-
--- a slot that can be written of the object that the word names
-pub record IsSlotOf (v : View) (word i start at : ℕ) : Type 0 where
-  pub named : Names v word start
-  pub index : at ≡ i
-  pub within : at < length (node_in v start).pointers
-  pub no_literals : is_method (node_in v start).format ≡ true → 0 < at
-
--- a unit of the object that the word names
-pub record IsUnitOf (v : View) (word i start at : ℕ) : Type 0 where
-  pub named : Names v word start
-  pub index : at ≡ i
-  pub within : at < length (node_in v start).units
-
 -- the command that makes an instance, in new space or old, or in old space alone
 abbrev pub asked : Space → Text → Text → ℕ → Form
 asked spaces.Any h c n = New h c n
 asked spaces.Old h c n = NewOld h c n
+
+-- the command that makes an object readonly, or writable
+abbrev pub flag_asked : Bool → Text → Form
+flag_asked true o = ReadOnly o
+flag_asked false o = Writable o

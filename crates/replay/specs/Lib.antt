@@ -3,3 +3,4 @@ pub mod Commands
 pub mod Runs
 pub mod Answered
 pub mod Stops
+pub mod Writes

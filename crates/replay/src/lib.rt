@@ -7,15 +7,18 @@
 //! session is that is left.
 #![tactic(auto)]
 
+mod changing;
 mod commands;
 mod handles;
 mod lines;
 mod making;
-mod objects;
 mod runs;
 mod session;
+mod settling;
+mod slots;
 #[cfg(test)]
 mod tests;
+mod values;
 
 pub use runs::{Status, run};
 pub use session::{LineFault, Session};

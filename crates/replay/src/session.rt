@@ -12,6 +12,7 @@ ghost use Rattle.image_load.specs.Loaded.{AreLimits, LoadCause};
 ghost use Rattle.replay.specs.declared.session.LineFault.TheVariants.{Ended};
 ghost use Rattle.replay.specs.Commands.{Replies, Steps, Keeps};
 ghost use Rattle.replay.specs.Sessions.{SameRun, Advances};
+ghost use Rattle.replay.specs.Writes.{LineWrites};
 
 use crate::commands::obey;
 use image_load::{LoadError, load};
@@ -62,6 +63,7 @@ impl Model for Session {
 fn try_line(heap: &mut Heap, bytes: &[u8]) -> Result<Answer, Refusal>
     ensures done { IfOk result (λ answer. Replies heap.old bytes.now answer heap.new) }
     ensures refused { IfErr result (λ why. Replies heap.old bytes.now (Refused why) heap.new) }
+    ensures words { LineWrites heap.old bytes.now heap.new }
     ensures keeps { Keeps heap.old heap.new }
 {
     match read_line(bytes) {
@@ -74,6 +76,7 @@ fn try_line(heap: &mut Heap, bytes: &[u8]) -> Result<Answer, Refusal>
 /// What a line is answered.
 fn reply(heap: &mut Heap, bytes: &[u8]) -> Answer
     ensures answer { Replies heap.old bytes.now result heap.new }
+    ensures words { LineWrites heap.old bytes.now heap.new }
     ensures keeps { Keeps heap.old heap.new }
 {
     match try_line(heap, bytes) {
@@ -85,6 +88,7 @@ fn reply(heap: &mut Heap, bytes: &[u8]) -> Answer
 /// The step of a line over a heap.
 fn step(heap: &mut Heap, bytes: &[u8]) -> Answer
     ensures answer { Steps heap.old bytes.now result heap.new }
+    ensures words { LineWrites heap.old bytes.now heap.new }
     ensures keeps { Keeps heap.old heap.new }
 {
     let answer = reply(heap, bytes);
@@ -143,6 +147,7 @@ impl Session {
     /// bytes do that are more than 1,024 too.
     pub(crate) fn answer(&mut self, bytes: &[u8]) -> Answer
         ensures step { (told : Option FileBytes) → Advances self.old told bytes.now result self.new told }
+        ensures words { LineWrites self.old.heap bytes.now self.new.heap }
         ensures run { SameRun self.old self.new }
     {
         step(&mut self.heap, bytes)
@@ -150,10 +155,13 @@ impl Session {
 
     /// The answer to a line without its line feed; of a line of more than 1,024 bytes any first bytes do that are more than 1,024 too.
     /// [`LineFault::Ended`] where the session has ended; then nothing changes.
+    ///
+    /// The clause `words` says which words of the region stay where the line is `become` or `forward`.
     pub fn line<F: Files>(&mut self, files: &mut F, bytes: &[u8]) -> Result<Answer, LineFault>
         ensures step { IfOk result (λ answer. Advances self.old (F.told files.old) bytes.now answer self.new (F.told files.new)) }
         ensures open { IfOk result (λ answer. self.old.ended ≡ false) }
         ensures fault { IfErr result (λ why. (why ≡ Ended) × (self.old.ended ≡ true)) }
+        ensures words { LineWrites self.old.heap bytes.now self.new.heap }
         ensures same { OnErr result (self.new ≡ self.old) }
         ensures run { SameRun self.old self.new }
         ensures told { F.told files.new ≡ F.told files.old }

@@ -9,6 +9,7 @@ pub(crate) const FIRST_SCRIPT: &str = "special s\nfetch c s 3\nkind c\n";
 
 pub(crate) const FIRST_ANSWERS: &str = "ok\nok\nobject 32 1\n";
 
+mod becoming;
 mod handles;
 mod images;
 mod kept;

@@ -18,7 +18,7 @@ chosen f false x y = refl
 
 module _ {K X Y : Type 0} (R : K → K → Ordering) (f : X → Y) where
   -- the entries with their values mapped
-  abbrev mapped : List (K × X) → List (K × Y)
+  abbrev pub mapped : List (K × X) → List (K × Y)
   mapped es = map (λ e. (e.0, f e.1)) es
 
   below-mapped : (k : K) (es : List (K × X)) → below_all R k (mapped es) ≡ below_all R k es
@@ -33,14 +33,18 @@ module _ {K X Y : Type 0} (R : K → K → Ordering) (f : X → Y) where
   find-mapped q [] = refl
   find-mapped q (e ∷ es) = ap (cond (eq_by_cmp R q e.0) (Some (f e.1))) (find-mapped q es) ∙ chosen f (eq_by_cmp R q e.0) (Some e.1) (find R q es)
 
-  -- a map that has the mapped values has as many keys
-  pub len-mapped : IsTotalOrder R → IsAntisymmetric R → (m : FinMap R X) (n : FinMap R Y) → ((q : K) → get n q ≡ option_map f (get m q)) → len n ≡ len m
-  len-mapped o exact m n is =
+  -- a map that has the mapped values has the same entries, each with its value gone through the function
+  pub entries-mapped : IsTotalOrder R → IsAntisymmetric R → (m : FinMap R X) (n : FinMap R Y) → ((q : K) → get n q ≡ option_map f (get m q)) → entries n ≡ mapped (entries m)
+  entries-mapped o exact m n is =
       let es = mapped (entries m) in
       let rises : T (is_sorted R es) = subst T (sym (sorted-mapped (entries m))) (entries_sorted m) in
       let made : FinMap R Y = from_sorted es in
       let same : n ≡ made = same_map o exact n made (λ q. is q ∙ ap (option_map f) (get-entries m q) ∙ sym (find-mapped q (entries m)) ∙ sym (get-from_sorted R es q rises)) in
-      ap len same ∙ len-entries made ∙ ap length (entries-from_sorted R es rises) ∙ length-map (entries m) (λ e. (e.0, f e.1)) ∙ sym (len-entries m)
+      ap entries same ∙ entries-from_sorted R es rises
+
+  -- it has as many keys
+  pub len-mapped : IsTotalOrder R → IsAntisymmetric R → (m : FinMap R X) (n : FinMap R Y) → ((q : K) → get n q ≡ option_map f (get m q)) → len n ≡ len m
+  len-mapped o exact m n is = len-entries n ∙ ap length (entries-mapped o exact m n is) ∙ length-map (entries m) (λ e. (e.0, f e.1)) ∙ sym (len-entries m)
 
 -- handles that compare alike are one
 pub exact_handles : IsAntisymmetric handle_cmp

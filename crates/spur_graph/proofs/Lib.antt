@@ -6,3 +6,6 @@ pub mod Scripts
 pub mod Serving
 pub mod HandleMaps
 pub mod RowNumbers
+pub mod MappedValues
+pub mod Classed
+pub mod Refusing

@@ -1,5 +1,5 @@
 -- What a command answers and how it changes the state, where nothing refuses it.
-use Rattle.std.specs.Prelude.{◌≡◌, ◌⊎◌, ℕ, ◌/◌, if◌then◌else◌, length, slice_index, slice_index_or, slice_set, Option, Some, None}
+use Rattle.std.specs.Prelude.{◌≡◌, ◌⊎◌, ℕ, ◌/◌, if◌then◌else◌, length, slice_index, slice_index_or, slice_set, true, false, Option, Some, None}
 use Rattle.std.specs.Option.{option_map}
 use Rattle.std.specs.FinSet.{contains}
 use Rattle.spur_graph.specs.declared.answer.Value.TheVariants.{Ref}
@@ -7,11 +7,12 @@ use Rattle.spur_graph.specs.declared.answer.Value.TheVariants as values
 use Rattle.spur_graph.specs.declared.answer.Answer.{Answer}
 use Rattle.spur_graph.specs.declared.answer.Answer.TheVariants as answers
 use Rattle.spur_graph.specs.Bytes.{Text}
-use Rattle.spur_graph.specs.Form.{Form, Special, Nil, Yes, No, Int, Char, Float, Copy, Drop, Kind, Class, Size, Fetch, Store, Unit, SetUnit, Same, New, NewOld, Enter, Hash, Stat}
+use Rattle.spur_graph.specs.Form.{Form, Special, Nil, Yes, No, Int, Char, Float, Copy, Drop, Kind, Class, Size, Fetch, Store, Unit, SetUnit, Same, New, NewOld, Enter, Hash, Become, Forward, Pin, Unpin, ReadOnly, Writable, Stat}
 use Rattle.spur_graph.specs.Value.{same_value}
 use Rattle.spur_graph.specs.State.{State, with_graph, bound, dropped, with_changed, made, value_at, name_at, node_of_handle, slots_asked, words_asked}
 use Rattle.spur_graph.specs.Room.{Room, page_words, with_page}
 use Rattle.spur_graph.specs.Serve.{Served, Anywhere, OldAlone, serve}
+use Rattle.spur_graph.specs.Become.{exchanged, room_exchanged, forwarded, room_forwarded, pinned, room_pinned}
 use Rattle.spur_graph.specs.Instances.{instance}
 use Rattle.spur_graph.specs.Hashes.{hash_now, hashed, free_index, entered}
 use Rattle.spur_graph.specs.Ordinary.{page_entries}
@@ -59,6 +60,15 @@ outcome s k (New h c n) = option_map (λ served. ok (new_instance s k h c n serv
 outcome s k (NewOld h c n) = option_map (λ served. ok (new_instance s k h c n served)) (serve OldAlone s.room (words_asked s.graph k c n))
 outcome s k (Enter c) = option_map (λ room. (answers.Number (free_index s.graph), record s { graph = entered s.graph (name_at s.graph k c) (free_index s.graph); room = room })) (room_entered s.room (free_index s.graph))
 outcome s k (Hash o) = Some (answers.Number (hash_now s.graph (name_at s.graph k o)), with_graph s (hashed s.graph (name_at s.graph k o)))
+outcome s k (Become a b) =
+    option_map (λ room. ok (record s { graph = exchanged s.graph (name_at s.graph k a) (name_at s.graph k b); room = room }))
+    (room_exchanged s.room (name_at s.graph k a) (name_at s.graph k b))
+outcome s k (Forward a b hash) =
+    Some (ok (record s { graph = forwarded s.graph (name_at s.graph k a) (name_at s.graph k b) hash; room = room_forwarded s.room (name_at s.graph k a) (name_at s.graph k b) }))
+outcome s k (Pin o) = option_map (λ room. ok (record s { graph = pinned s.graph (name_at s.graph k o); room = room })) (room_pinned s.room (name_at s.graph k o))
+outcome s k (Unpin o) = Some (ok (with_changed s (name_at s.graph k o) (λ n. record n { pinned = false })))
+outcome s k (ReadOnly o) = Some (ok (with_changed s (name_at s.graph k o) (λ n. record n { readonly = true })))
+outcome s k (Writable o) = Some (ok (with_changed s (name_at s.graph k o) (λ n. record n { readonly = false })))
 outcome s k Stat = Some (answers.Stat (stat_of s.graph s.room), s)
 outcome s k form = None
 

@@ -8,7 +8,7 @@ use Rattle.std.specs.Cmp.Lexicographic.{slice_cmp}
 use Rattle.std.specs.FinMap.{FinMap, get, insert, remove}
 use Rattle.spur_graph.specs.declared.answer.Value.{Value}
 use Rattle.spur_graph.specs.declared.answer.Value.TheVariants.{Ref}
-use Rattle.spur_graph.specs.Value.{IsValue}
+use Rattle.spur_graph.specs.Value.{IsValue, name_of}
 use Rattle.spur_graph.specs.Bytes.{Text}
 use Rattle.spur_graph.specs.Node.{Node, IsNode}
 
@@ -41,6 +41,10 @@ blank = record { class = 0; hash = 0; format = 0; pointers = []; units = []; pin
 -- the node of a name; in a closed graph each name that is spoken of has one
 abbrev pub node : Graph → ℕ → Node
 node g a = unwrap_or (get g.nodes a) blank
+
+-- the node of the name that a value names; an immediate is refused before this is asked
+abbrev pub node_at : Graph → Value → Node
+node_at g v = node g (name_of v)
 
 -- the value that a handle of a mutator has, if it is held
 abbrev pub held : Graph → ℕ → Text → Option Value

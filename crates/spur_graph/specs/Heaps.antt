@@ -1,5 +1,5 @@
 -- What a heap stands for. Its words have a reference as 8 times a start, and the names of its graph are the starts themselves.
-use Rattle.std.specs.Prelude.{ℕ, ◌≡◌, ◌≢◌, ◌<◌, ◌≤◌, ◌*◌, ◌/◌, ◌%◌, ◌^◌, List, [], length, slice_index, map, Bool, true, false, if◌then◌else◌, nat_eq, nat_le, Option, Some, None}
+use Rattle.std.specs.Prelude.{ℕ, ◌≡◌, ◌≢◌, ◌<◌, ◌≤◌, ◌*◌, ◌/◌, ◌%◌, ◌^◌, List, [], length, slice_index, map, Bool, true, false, if◌then◌else◌, nat_eq, nat_le, nat_lt, Option, Some, None}
 use Rattle.std.specs.List.{All, Contains, flat_map}
 use Rattle.std.specs.FinMap.{FinMap, get, entries, from_entries}
 use Rattle.object_header.specs.Field.{field_of}
@@ -9,7 +9,7 @@ use Rattle.spur_graph.specs.declared.limits.Limits.{Limits}
 use Rattle.spur_graph.specs.ImageFile.{header_bytes, spur_format, format, header_size, base}
 use Rattle.spur_graph.specs.Graph.{Graph, Handle, handle_cmp, AreApart}
 use Rattle.spur_graph.specs.Names.{Iso}
-use Rattle.spur_graph.specs.Room.{Room}
+use Rattle.spur_graph.specs.Room.{Room, fresh_words, is_long}
 use Rattle.spur_graph.specs.Step.{SameRoom}
 use Rattle.object_header.specs.Chunks.{Chunk, chunks}
 use Rattle.spur_graph.specs.Cells.{Store, Cell, Empty, Moved, There, store_in, is_start, is_there, is_formed, pointer_count, final, first, any_below}
@@ -156,10 +156,11 @@ pub record AreMourners (h : Store) (groups : List (List ℕ)) : Type 0 where
 
 -- ---- new space
 
--- a chunk of new space is an object or a forwarder, and is not pinned
+-- a chunk of new space is an object or a forwarder, is not pinned, and has the words of one that was made here
 pub record IsYoung (h : Store) (c : Chunk) : Type 0 where
   pub start : is_start (h.cell c.start) ≡ true
   pub mobile : (body_at h c.start).pinned ≡ 0
+  pub form : (c.size ≡ fresh_words c.slots) × (nat_lt c.at c.start ≡ is_long c.slots)
 
 -- a heap stands for a graph: each of its spaces is cut into chunks without a rest, what stands in them is sound, and whatever names an object from
 -- outside is good. Internal objects and free chunks stand in old space

@@ -6,6 +6,7 @@ pub mod Names
 pub mod FreeSizes
 pub mod Room
 pub mod Serve
+pub mod Become
 pub mod Segments
 pub mod Chains
 pub mod Cells

@@ -2,18 +2,20 @@
 use Rattle.std.specs.Prelude.{ℕ, ◌*◌, ◌/◌, ◌%◌, ◌^◌, ℤ, pos, negsuc, List, [], ◌∷◌, length, Bool, not, if◌then◌else◌, ◌==◌, ◌&&◌, ◌||◌, nat_eq, nat_le, nat_lt, Option, Some, None}
 use Rattle.std.specs.Option.{is_none}
 use Rattle.std.specs.List.{list_any}
-use Rattle.std.specs.FinMap.{len}
+use Rattle.std.specs.FinMap.{entries, len}
 use Rattle.std.specs.FinSet.{contains}
 use Rattle.object_header.specs.Formats.{unit_bytes_of, is_method}
 use Rattle.spur_graph.specs.declared.answer.Refusal.{Refusal}
 use Rattle.spur_graph.specs.declared.answer.Refusal.TheVariants as r
-use Rattle.spur_graph.specs.Value.{is_immediate}
+use Rattle.spur_graph.specs.declared.answer.Value.TheVariants.{Ref}
+use Rattle.spur_graph.specs.Value.{is_immediate, same_value}
 use Rattle.spur_graph.specs.Node.{Node, is_raw}
-use Rattle.spur_graph.specs.Graph.{Graph, held}
+use Rattle.spur_graph.specs.Graph.{Graph, held, waiting}
 use Rattle.spur_graph.specs.Bytes.{Text}
 use Rattle.spur_graph.specs.State.{value_at, name_at, node_of_handle}
-use Rattle.spur_graph.specs.Room.{Room, page_words}
-use Rattle.spur_graph.specs.Serve.{Source, OldAlone, serve, full_of}
+use Rattle.spur_graph.specs.Room.{Room, page_words, is_old, spot_at}
+use Rattle.spur_graph.specs.Serve.{Source, Anywhere, OldAlone, serve, full_of}
+use Rattle.spur_graph.specs.Become.{needs_no_words, exchange_words}
 use Rattle.spur_graph.specs.Instances.{has_instances, layout_in, is_size}
 use Rattle.spur_graph.specs.Hashes.{free_index}
 use Rattle.spur_graph.specs.Ordinary.{page_entries, class_limit}
@@ -97,6 +99,24 @@ is_special g a = nat_eq a g.nil || nat_eq a g.no || nat_eq a g.yes
 abbrev pub special : Graph → ℕ → List Text → Option Refusal
 special g k names = test (list_any (λ h. is_special g (name_at g k h)) names) r.Special
 
+-- an object that the command may not change so is pinned
+abbrev pub pinned : Graph → ℕ → List Text → Option Refusal
+pinned g k names = test (list_any (λ h. (node_of_handle g k h).pinned) names) r.Pinned
+
+-- the object waits among the mourners
+abbrev pub waits : Graph → ℕ → Bool
+waits g a = list_any (nat_eq a) (waiting g)
+
+abbrev pub mourning : Graph → ℕ → List Text → Option Refusal
+mourning g k names = test (list_any (λ h. waits g (name_at g k h)) names) r.Mourning
+
+-- the object stands in the class table: an entry names it
+unfoldable pub is_classed : Graph → ℕ → Bool
+is_classed g a = list_any (λ e. same_value e.1 (Ref a)) (entries g.classes)
+
+abbrev pub classed : Graph → ℕ → List Text → Option Refusal
+classed g k names = test (list_any (λ h. is_classed g (name_at g k h)) names) r.Classed
+
 -- no entered class, or none whose slot 2 says what its instances are
 abbrev pub no_class : Graph → ℕ → Option Refusal
 no_class g a = test (not (has_instances g a)) r.Class
@@ -108,6 +128,14 @@ no_size c n = test (not (is_size (layout_in c) n)) r.Size
 -- nothing serves a need of so many words
 abbrev pub unserved : Source → Room → ℕ → Option Refusal
 unserved source room n = test (is_none (serve source room n)) (r.Full (full_of source room n))
+
+-- two objects can't be exchanged in place, and nothing serves the piece for both
+abbrev pub no_piece : Room → ℕ → ℕ → Option Refusal
+no_piece room a b = if needs_no_words room a b then None else unserved Anywhere room (exchange_words room a b)
+
+-- an object of new space can't be pinned, since nothing serves its words in old space
+abbrev pub no_old_words : Room → ℕ → Option Refusal
+no_old_words room a = if is_old (spot_at room a).space then None else unserved OldAlone room (spot_at room a).words
 
 -- an object that has a hash already can't be entered at another index
 abbrev pub has_hash : Node → Option Refusal

@@ -1,14 +1,14 @@
 -- The first refusal of each command.
-use Rattle.std.specs.Prelude.{ℕ, List, [], ◌∷◌, Option, Some}
+use Rattle.std.specs.Prelude.{ℕ, List, [], ◌∷◌, if◌then◌else◌, Option, Some}
 use Rattle.spur_graph.specs.declared.answer.Refusal.{Refusal}
 use Rattle.spur_graph.specs.declared.answer.Refusal.TheVariants as r
 use Rattle.spur_graph.specs.Graph.{Graph}
 use Rattle.spur_graph.specs.Bytes.{Text}
-use Rattle.spur_graph.specs.Form.{Form, Special, Nil, Yes, No, Int, Char, Float, Copy, Drop, Kind, Class, Size, Fetch, Store, Unit, SetUnit, Same, New, NewOld, Enter, Hash, Stat}
+use Rattle.spur_graph.specs.Form.{Form, Special, Nil, Yes, No, Int, Char, Float, Copy, Drop, Kind, Class, Size, Fetch, Store, Unit, SetUnit, Same, New, NewOld, Enter, Hash, Become, Forward, Pin, Unpin, ReadOnly, Writable, Stat}
 use Rattle.spur_graph.specs.State.{State, name_at, node_of_handle, words_asked}
 use Rattle.spur_graph.specs.Serve.{Source, Anywhere, OldAlone}
 use Rattle.spur_graph.specs.Hashes.{free_index}
-use Rattle.spur_graph.specs.Refusals.{Row, first, unknown, handles, immediate, raw_read, raw_write, raw_unit, index_in, readonly, unit_range, int_range, char_range, float_range, special, no_class, no_size, unserved, has_hash, no_index, no_page}
+use Rattle.spur_graph.specs.Refusals.{Row, first, unknown, handles, immediate, raw_read, raw_write, raw_unit, index_in, readonly, unit_range, int_range, char_range, float_range, special, no_class, no_size, unserved, has_hash, no_index, no_page, pinned, mourning, classed, no_piece, no_old_words}
 
 -- of a command that binds `h` and reads these handles
 abbrev pub binds : Graph → ℕ → Text → List Text → Row → Row
@@ -50,6 +50,16 @@ row s k (Enter c) =
     unknown s.graph k (c ∷ []) ∷ immediate s.graph k (c ∷ []) ∷ special s.graph k (c ∷ []) ∷ has_hash (node_of_handle s.graph k c)
     ∷ no_index s.graph ∷ no_page s.room (free_index s.graph) ∷ []
 row s k (Hash o) = unknown s.graph k (o ∷ []) ∷ immediate s.graph k (o ∷ []) ∷ []
+row s k (Become a b) =
+    unknown s.graph k (a ∷ b ∷ []) ∷ immediate s.graph k (a ∷ b ∷ []) ∷ special s.graph k (a ∷ b ∷ []) ∷ pinned s.graph k (a ∷ b ∷ [])
+    ∷ readonly s.graph k (a ∷ b ∷ []) ∷ mourning s.graph k (a ∷ b ∷ []) ∷ no_piece s.room (name_at s.graph k a) (name_at s.graph k b) ∷ []
+row s k (Forward a b hash) =
+    unknown s.graph k (a ∷ b ∷ []) ∷ immediate s.graph k (a ∷ b ∷ []) ∷ special s.graph k (a ∷ (if hash then b ∷ [] else [])) ∷ pinned s.graph k (a ∷ [])
+    ∷ readonly s.graph k (a ∷ []) ∷ mourning s.graph k (a ∷ []) ∷ classed s.graph k (a ∷ (if hash then b ∷ [] else [])) ∷ []
+row s k (Pin o) = unknown s.graph k (o ∷ []) ∷ immediate s.graph k (o ∷ []) ∷ no_old_words s.room (name_at s.graph k o) ∷ []
+row s k (Unpin o) = unknown s.graph k (o ∷ []) ∷ immediate s.graph k (o ∷ []) ∷ []
+row s k (ReadOnly o) = unknown s.graph k (o ∷ []) ∷ immediate s.graph k (o ∷ []) ∷ []
+row s k (Writable o) = unknown s.graph k (o ∷ []) ∷ immediate s.graph k (o ∷ []) ∷ []
 row s k Stat = []
 row s k form = Some r.Unsupported ∷ []
 

@@ -1,7 +1,8 @@
 -- The room of a heap: how many words each space has and uses, and where each name stands. It has no places and no order of objects.
-use Rattle.std.specs.Prelude.{ℕ, ◌+◌, max, List, [], Bool, true, false, if◌then◌else◌, nat_lt}
+use Rattle.std.specs.Prelude.{ℕ, ◌+◌, ◌-◌, max, List, [], Bool, true, false, if◌then◌else◌, nat_lt}
+use Rattle.std.specs.Option.{unwrap_or}
 use Rattle.std.specs.Ordering.{nat_cmp}
-use Rattle.std.specs.FinMap.{FinMap, empty, insert}
+use Rattle.std.specs.FinMap.{FinMap, empty, get, insert}
 use Rattle.std.specs.FinSet.{FinSet}
 use Rattle.std.specs.FinSet as sets
 
@@ -48,6 +49,18 @@ no_room = record {
   internal_pinned = 0;
   pages = sets.empty;
 }
+
+-- a spot of nothing
+abbrev pub no_spot : Spot
+no_spot = record { space = Old; words = 0; overflow = false }
+
+-- the spot of a name; each name that has a node has one
+abbrev pub spot_at : Room → ℕ → Spot
+spot_at room a = unwrap_or (get room.spots a) no_spot
+
+-- the slots for which an object at a spot has room. One that has none has room for one, and is made anew with as many words as one of one slot
+abbrev pub slots_in : Spot → ℕ
+slots_in spot = if spot.overflow then spot.words - 2 else spot.words - 1
 
 -- ---- fresh objects
 

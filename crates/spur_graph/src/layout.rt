@@ -16,6 +16,9 @@ pub const GREATEST_BASE: u64 = 1 << 60;
 /// The greatest address that a segment may end at, a choice of this project.
 pub const GREATEST_END: u64 = 1 << 62;
 
+/// The format of a forwarder that is made, Spur's own. Of one that is read the format plays no part.
+pub const FORWARDER_FORMAT: u64 = 7;
+
 /// Which of the chunks is the free lists object.
 pub const FREE_LISTS: usize = 3;
 

@@ -17,7 +17,7 @@ pub use answer::{Answer, Full, Refusal, SegmentCause, Shown, Stat, Value};
 pub use command::{Command, FileName, HandleName, Line};
 pub use laws::{handle_bound, keeps_names, words_fit};
 pub use layout::{
-    BRIDGE_BYTES, FREE_LISTS, GREATEST_BASE, GREATEST_END, HEADER_BYTES, HIDDEN_ROOTS,
-    HIDDEN_ROOTS_SLOTS, PAGE_ENTRIES, PAGE_PLACES, SPUR_FORMAT,
+    BRIDGE_BYTES, FORWARDER_FORMAT, FREE_LISTS, GREATEST_BASE, GREATEST_END, HEADER_BYTES,
+    HIDDEN_ROOTS, HIDDEN_ROOTS_SLOTS, PAGE_ENTRIES, PAGE_PLACES, SPUR_FORMAT,
 };
 pub use limits::{Limits, MOST_WORDS};

@@ -58,7 +58,7 @@ module _ (v : View) (w : IsWhole v) (index : ℕ) (low : index < class_limit) wh
       ]
 
   -- an entry reads as the object to which it leads
-  leading_value : (s : ℕ) → has_page (store v) index ≡ true → lead (store v) (entry (store v) index) ≡ Some s → heap_value v (entry (store v) index) ≡ Ref s
+  pub leading_value : (s : ℕ) → has_page (store v) index ≡ true → lead (store v) (entry (store v) index) ≡ Some s → heap_value v (entry (store v) index) ≡ Ref s
   leading_value s on is =
       let h : Store = store v in
       let e : ℕ = entry h index in

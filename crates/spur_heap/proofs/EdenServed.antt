@@ -97,14 +97,14 @@ module _ {v : View} {new : List ℕ} {class format slots : ℕ} (k : IsGrown v n
   abbrev P : List Chunk
   P = past_row v.words v.spaces
 
-  inside : at + fresh_words slots ≤ length new
+  pub inside : at + fresh_words slots ≤ length new
   inside =
       let x = k.whole.spaces.first_behind in
       let y = k.whole.spaces.second_behind in
       let z = k.whole.spaces.last in
       omega (arith, k.fits, k.long, x, y, z)
 
-  grows : Grows v.words new v.limits v.spaces c
+  pub grows : Grows v.words new v.limits v.spaces c
   grows = record {
     spaces = k.whole.spaces;
     rows = k.whole.rows;
@@ -123,6 +123,7 @@ module _ {v : View} {new : List ℕ} {class format slots : ℕ} (k : IsGrown v n
     bits = fresh_has_bits new at class format slots (fill_word v format) k.run v.phase;
     forgotten = fresh_is_forgotten new at class format slots (fill_word v format) k.run;
     mobile = refl;
+    form = (refl, overflow_is at slots);
   }
 
   pub eden_whole : IsWhole u
@@ -134,7 +135,7 @@ module _ {v : View} {new : List ℕ} {class format slots : ℕ} (k : IsGrown v n
   away : (d : Chunk) → In (O ++ (E ++ P)) d → d.start ≢ s
   away d m = apart v new c b is_made k.whole d m
 
-  room_is : heap_room u ≡ placed (served_eden v (fresh_words slots)).room s (fresh_spot Eden slots)
+  pub room_is : heap_room u ≡ placed (served_eden v (fresh_words slots)).room s (fresh_spot Eden slots)
   room_is =
       let spot : spot_in Eden c ≡ fresh_spot Eden slots = λ i. record { space = Eden; words = fresh_words slots; overflow = overflow_is at slots i } in
       (λ i. room_in (store_of u) (old_same grows i) (eden_more grows i) (past_same grows i) v.spaces.old_end v.limits (v.spaces.eden_used + fresh_words slots) v.spaces.past_used)

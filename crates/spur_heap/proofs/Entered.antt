@@ -1,5 +1,5 @@
 -- An entry of the class table is made: the store with another word in a page.
-use Rattle.std.proofs.Common.{◌≡◌, ◌≢◌, ◌⊎◌, ℕ, Bool, true, false, not, cond, ◌&&◌, ◌||◌, ◌/◌, ◌%◌, ◌<◌, ◌≤◌, eqb, ltb, List, [], ◌∷◌, map, length, get_or, set, refl, sym, ap, ◌∙◌, arith, inl, inr, Some, None, Option}
+use Rattle.std.proofs.Common.{◌≡◌, ◌≢◌, ℕ, true, false, not, cond, ◌&&◌, ◌||◌, ◌/◌, ◌%◌, ◌<◌, eqb, ltb, List, [], ◌∷◌, map, length, get_or, set, refl, sym, ap, ◌∙◌, arith, inl, inr, Some, None, Option}
 use Rattle.std.proofs.lemmas.Bool.{false≢true, cases_Bool, cases_eq, cases_lt, eq-eqb, ne_eqb, eqb-true, ltb-true, le-ltb, and_parts, and_left, and_right, or_cases, or_left, or_right, or_parts, not-false, not-true, not_from_true, false_from_ne_true}
 use Rattle.std.proofs.lemmas.List.{length-set, get_or-set_same, get_or-set_other}
 use Rattle.std.specs.Option.{unwrap_or}
@@ -8,7 +8,7 @@ use Rattle.std.specs.Ordering.{nat_cmp, eq_by_cmp}
 use Rattle.std.specs.Cmp.{nat_cmp_total}
 use Rattle.std.specs.FinMap.{FinMap, get, insert, from_entries, find, get-from_entries, get-insert, same_map, nat_cmp-IsAntisymmetric}
 use Rattle.spur_graph.specs.declared.answer.Value.TheVariants.{Ref}
-use Rattle.spur_graph.specs.Graph.{Graph, handle_cmp}
+use Rattle.spur_graph.specs.Graph.{handle_cmp}
 use Rattle.spur_graph.specs.Cells.{Body, There, Store, is_there, body_of, first, lead, any_below}
 use Rattle.spur_graph.specs.Ordinary.{page_places, page_entries, class_limit, is_at, passes, body_at, root_slot, tells, is_nil_slot, is_first, is_page_body, is_page, is_internal, is_ordinary, ordinary_starts, has_page, page_of, entry, has_entry, is_no_index, is_entered, is_bad_entry}
 use Rattle.spur_graph.specs.CellGraph.{read, node_of, nodes_of, has_class, classes_of}
@@ -18,7 +18,8 @@ use Rattle.heap_cells.proofs.Bodies.{with_words}
 use Rattle.heap_cells.proofs.Entries.{place_below}
 use Rattle.heap_cells.proofs.Finding.{key_same, same_key}
 use Rattle.heap_cells.proofs.Internals.{a_page, not_first}
-use Rattle.spur_heap.proofs.Changing.{changed, Swap, page_internal, cell-here, cell-other, kept, lead-same, root-same, ordinary-same, has_page-same, sound_swapped}
+use Rattle.spur_heap.proofs.InPlace.{changed, Alike, cell-here, cell-other, kept, lead-same, alike_formed}
+use Rattle.spur_heap.proofs.Swap.{Swap, page_internal, root-same, ordinary-same, has_page-same, sound_swapped}
 use Rattle.spur_heap.proofs.Graphs.{map_kept, read-same, node-same, starts-same, mourners-same}
 use Rattle.spur_heap.proofs.ClassTable.{key_kept, key_past}
 
@@ -97,15 +98,20 @@ module _ {old : Store} {index w start p : ℕ} {b : Body} (k : Enters old index 
   apart : (t : ℕ) → is_ordinary old t ≡ true → t ≢ p
   apart t on e = false≢true (sym (not-true _ (and_parts (is_there (old.cell t)) (not (is_internal old t)) on).1) ∙ ap (is_internal old) e ∙ internal)
 
+  pub entered_alike : Alike old p b entered_body
+  entered_alike = record {
+    place = record { there = k.there };
+    class = refl;
+    format = refl;
+    like = record { long = length-set b.words (index % page_entries) w; first = λ l. absurd (omega (arith, l, format_is)) };
+  }
+
   pub entered_swap : Swap old p b entered_body
   entered_swap = record {
     sound = k.sound;
-    alike = record {
-      there = k.there;
-      class = refl;
-      format = refl;
-      like = record { long = length-set b.words (index % page_entries) w; first = λ l. absurd (omega (arith, l, format_is)) };
-    };
+    place = entered_alike.place;
+    formed = alike_formed entered_alike k.sound;
+    inner = λ on. record { format = refl; long = entered_alike.like.long; pinned = refl };
     roots = λ e. not_first old (a_page old (index / page_entries) k.page).0 4 (omega arith) (a_page old (index / page_entries) k.page).1.later (page_is ∙ sym e);
     slots = λ on. absurd (apart p on refl);
   }
@@ -121,7 +127,7 @@ module _ {old : Store} {index w start p : ℕ} {b : Body} (k : Enters old index 
   pub entry-here : entry new index ≡ w
   entry-here =
       ap (λ q. get_or (body_at new q).words (index % page_entries) 0) (page_of-same index ∙ own_page)
-      ∙ ap (λ c. get_or (body_of c).words (index % page_entries) 0) (cell-here entered_swap.alike)
+      ∙ ap (λ c. get_or (body_of c).words (index % page_entries) 0) (cell-here entered_swap.place)
       ∙ get_or-set_same b.words (index % page_entries) w 0 (omega (arith, length_is))
 
   page-at : (i : ℕ) → has_page old i ≡ true → is_page old (i / page_entries) ≡ true
@@ -136,7 +142,7 @@ module _ {old : Store} {index w start p : ℕ} {b : Body} (k : Enters old index 
         let at : page_of old i ≡ p = ap (λ m. unwrap_or (old.to (root_slot old m)) old.names) same ∙ own_page in
         let slot : i % page_entries ≢ index % page_entries = λ rest. n (omega (arith, same, rest)) in
         ap (λ q. get_or (body_at new q).words (i % page_entries) 0) (page_of-same i ∙ at)
-        ∙ ap (λ c. get_or (body_of c).words (i % page_entries) 0) (cell-here entered_swap.alike)
+        ∙ ap (λ c. get_or (body_of c).words (i % page_entries) 0) (cell-here entered_swap.place)
         ∙ get_or-set_other b.words (index % page_entries) (i % page_entries) w 0 slot
         ∙ sym (ap (λ c. get_or (body_of c).words (i % page_entries) 0) k.there)
         ∙ sym (ap (λ q. get_or (body_at old q).words (i % page_entries) 0) at)
@@ -148,19 +154,19 @@ module _ {old : Store} {index w start p : ℕ} {b : Body} (k : Enters old index 
           | inl low ↦ pages_apart old (i / page_entries) (index / page_entries) q.0 p low k.page q.1.named k.named
           | inr high ↦ λ e. pages_apart old (index / page_entries) (i / page_entries) p q.0 (omega (arith, high, other)) page k.named q.1.named (sym e)
         ] in
-        ap (λ t. get_or (body_at new t).words (i % page_entries) 0) (page_of-same i) ∙ ap (λ c. get_or (body_of c).words (i % page_entries) 0) (cell-other entered_swap.alike (page_of old i) (λ e. far (sym is ∙ e)))
+        ap (λ t. get_or (body_at new t).words (i % page_entries) 0) (page_of-same i) ∙ ap (λ c. get_or (body_of c).words (i % page_entries) 0) (cell-other entered_swap.place (page_of old i) (λ e. far (sym is ∙ e)))
   ]
 
   lead-other : (i : ℕ) → has_page old i ≡ true → i ≢ index → lead new (entry new i) ≡ lead old (entry old i)
-  lead-other i e n = ap (lead new) (entry-other i e n) ∙ lead-same entered_swap.alike (entry old i)
+  lead-other i e n = ap (lead new) (entry-other i e n) ∙ lead-same entered_swap.place (entry old i)
 
   lead-here : lead new (entry new index) ≡ Some start
-  lead-here = ap (lead new) entry-here ∙ lead-same entered_swap.alike w ∙ k.leads
+  lead-here = ap (lead new) entry-here ∙ lead-same entered_swap.place w ∙ k.leads
 
   -- ---- entered classes
 
   hash-same : (t : ℕ) → (body_at new t).hash ≡ (body_at old t).hash
-  hash-same = kept entered_swap.alike (λ c. (body_of c).hash) refl
+  hash-same = kept entered_swap.place (λ c. (body_of c).hash) refl
 
   entered-kept : (t : ℕ) → t ≢ first old 0 → is_entered old t ≡ true → is_entered new t ≡ true
   unfolding is_entered
@@ -252,7 +258,7 @@ module _ {old : Store} {index w start p : ℕ} {b : Body} (k : Enters old index 
   nodes-entered =
       ap (λ ss. from_entries {R = nat_cmp} (map (λ t. (t, node_of own_name new (body_at new t))) ss)) (starts-same entered_swap)
       ∙ ap (λ es. from_entries {R = nat_cmp} es) (map_kept (is_ordinary old) (λ t. (t, node_of own_name old (body_at old t))) (λ t. (t, node_of own_name new (body_at new t)))
-      (λ t on. let node : node_of own_name new (body_at new t) ≡ node_of own_name old (body_at old t) = node-same entered_swap (body_at new t) ∙ ap (λ c. node_of own_name old (body_of c)) (cell-other entered_swap.alike t (apart t on)) in λ x. (t, node x))
+      (λ t on. let node : node_of own_name new (body_at new t) ≡ node_of own_name old (body_at old t) = node-same entered_swap (body_at new t) ∙ ap (λ c. node_of own_name old (body_of c)) (cell-other entered_swap.place t (apart t on)) in λ x. (t, node x))
       old.starts)
 
   pub graph-entered : (special : ℕ) (held : FinMap handle_cmp ℕ) (groups : List (List ℕ)) (hash next : ℕ)

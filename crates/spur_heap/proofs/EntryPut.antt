@@ -1,14 +1,13 @@
 -- An object is entered in the class table of a heap.
-use Rattle.std.proofs.Common.{◌≡◌, ◌≢◌, ℕ, Bool, true, false, not, ◌&&◌, ◌+◌, ◌*◌, ◌/◌, ◌%◌, ◌<◌, ◌≤◌, eqb, List, length, get_or, set, refl, sym, ap, ◌∙◌, subst, arith, inl, inr, Some, None}
-use Rattle.std.proofs.lemmas.Bool.{false≢true, cases_Bool, and_parts, eqb-true, lt-ltb, not-false, not-true}
-use Rattle.std.proofs.lemmas.List.{length-set, get_or-set_other}
+use Rattle.std.proofs.Common.{◌≡◌, ℕ, true, false, not, ◌&&◌, ◌+◌, ◌/◌, ◌%◌, ◌<◌, eqb, length, refl, sym, ap, ◌∙◌, subst, arith, Some}
+use Rattle.std.proofs.lemmas.Bool.{and_parts, eqb-true, lt-ltb, not-false, not-true}
 use Rattle.std.specs.Option.{is_none}
-use Rattle.std.specs.FinMap.{get, insert}
+use Rattle.std.specs.FinMap.{insert}
 use Rattle.spur_graph.specs.declared.answer.Value.TheVariants.{Ref}
-use Rattle.spur_graph.specs.Cells.{Body, There, Store, is_there, first, lead}
+use Rattle.spur_graph.specs.Cells.{There, Store, is_there, first, lead}
 use Rattle.spur_graph.specs.Spaces.{old_row, eden_row, past_row}
 use Rattle.spur_graph.specs.Ordinary.{page_entries, page_places, is_at, is_ordinary, is_good_word, is_page, is_nil_slot, root_slot, has_page, entry, body_at}
-use Rattle.spur_graph.specs.CellGraph.{read, has_class, classes_of}
+use Rattle.spur_graph.specs.CellGraph.{read, has_class}
 use Rattle.spur_graph.specs.Heaps.{View, IsWhole, store_of, heap_value, heap_graph, heap_room, own_name}
 use Rattle.heap_cells.specs.Settled.{word_of}
 use Rattle.heap_cells.proofs.Below.{at-named}
@@ -16,10 +15,10 @@ use Rattle.heap_cells.proofs.CellKinds.{there_is, there_starts}
 use Rattle.heap_cells.proofs.Entries.{place_below}
 use Rattle.heap_cells.proofs.ObjectReads.{object-inside}
 use Rattle.heap_cells.proofs.Internals.{a_page, IsPageAt}
-use Rattle.spur_heap.specs.Words.{AreSound, is_object, is_good, body_in}
-use Rattle.spur_heap.specs.Views.{IsOrdinary, IsGood, node_in}
-use Rattle.spur_heap.specs.Remembering.{after, remembered_for}
-use Rattle.spur_heap.specs.Entering.{CanEnter, HasPage}
+use Rattle.spur_heap.specs.Words.{AreSound, body_in}
+use Rattle.spur_heap.specs.Views.{IsOrdinary, IsGood}
+use Rattle.spur_heap.specs.Remembering.{remembered_for}
+use Rattle.spur_heap.specs.Entering.{CanEnter}
 use Rattle.spur_heap.proofs.Orders.{order}
 use Rattle.spur_heap.proofs.OneCell.{with_cell}
 use Rattle.spur_heap.proofs.Following.{own_lead, own_value}
@@ -27,12 +26,13 @@ use Rattle.spur_heap.proofs.Pages.{word_named}
 use Rattle.spur_heap.proofs.Puts.{whole_sound, fields_are}
 use Rattle.spur_heap.proofs.Touched.{Touch, Keeps, touched_store, touched_whole, touched_graph, touched_room}
 use Rattle.spur_heap.proofs.Tables.{SameTables, touched_tables, tables-trans}
-use Rattle.spur_heap.proofs.Changing.{changed, internal-same, ordinary-same, reference-same, good-same, mourners_kept}
+use Rattle.spur_heap.proofs.InPlace.{changed}
+use Rattle.spur_heap.proofs.Swap.{internal-same, ordinary-same, reference-same, good-same, mourners_kept, fires_alike}
 use Rattle.spur_heap.proofs.Graphs.{read-same, room-same}
-use Rattle.spur_heap.proofs.Written.{Slot, BitFor, body_then, then, slot_touch, slot_fits, slot_length}
+use Rattle.spur_heap.proofs.Written.{Slot, body_then, then, slot_touch, slot_fits}
 use Rattle.spur_heap.proofs.Storing.{RemembersFor, remembers_for}
 use Rattle.spur_heap.proofs.ClassTable.{no_entry, page_listed}
-use Rattle.spur_heap.proofs.Entered.{Enters, entered_body, entered_swap, entered_sound, length_is, graph-entered}
+use Rattle.spur_heap.proofs.Entered.{Enters, entered_alike, entered_swap, entered_sound, length_is, graph-entered}
 
 module _ (v : View) (whole : IsWhole v) (index start : ℕ) (can : CanEnter v index start) where
   abbrev h : Store
@@ -133,13 +133,13 @@ module _ (v : View) (whole : IsWhole v) (index start : ℕ) (can : CanEnter v in
     internal = λ t e. sym (internal-same (entered_swap enters_then) t) ∙ e;
     goods = λ w e. good-same (entered_swap enters_then) w ∙ e;
     references = λ w e. reference-same (entered_swap enters_then) w ∙ e;
-    mourners = mourners_kept (entered_swap enters_then);
+    mourners = λ groups m. mourners_kept (entered_swap enters_then) groups (fires_alike (entered_swap enters_then) refl groups m) m;
   }
 
   pub entered_whole : IsWhole entered_at
   entered_whole =
       touched_whole u entered_at.words page_start (There (body_then u page_start slot entry_word)) touch
-      (slot_fits u page_start slot entry_word places (entered_swap enters_then).alike.like (λ m low over. r.bit low over) r.whole) keeps r.whole
+      (slot_fits u page_start slot entry_word places (entered_alike enters_then).like (λ m low over. r.bit low over) r.whole) keeps r.whole
 
   pub entered_tables : SameTables v entered_at
   entered_tables =
@@ -168,5 +168,5 @@ module _ (v : View) (whole : IsWhole v) (index start : ℕ) (can : CanEnter v in
   pub entered_room : heap_room entered_at ≡ heap_room v
   entered_room =
       touched_room u entered_at.words page_start (There (body_then u page_start slot entry_word)) touch
-      ∙ room-same (entered_swap enters_then) refl (old_row u.words u.spaces) (eden_row u.words u.spaces) (past_row u.words u.spaces) u.spaces.old_end u.limits u.spaces.eden_used u.spaces.past_used
+      ∙ room-same (entered_swap enters_then) (old_row u.words u.spaces) (eden_row u.words u.spaces) (past_row u.words u.spaces) u.spaces.old_end u.limits u.spaces.eden_used u.spaces.past_used
       ∙ r.room

@@ -93,6 +93,18 @@ module _ (old head mid new : List ℕ) (at class format slots word start : ℕ) 
             ∙ get_or-replicate slots (j - (start + 1)) word 0 (omega (arith, low, high, start_is));
       }
 
+-- the run in words that have the same there
+pub fresh_run_kept : (words new : List ℕ) (at class format slots fill : ℕ) → IsFreshRun words at class format slots fill → ((j : ℕ) → at ≤ j → j < at + fresh_words slots → get_or new j 0 ≡ get_or words j 0)
+    → IsFreshRun new at class format slots fill
+fresh_run_kept words new at class format slots fill k same =
+    let p = fresh_places at slots in
+    let first : get_or new at 0 ≡ get_or words at 0 = same at (omega arith) (omega (arith, p.some)) in
+    record {
+      overflow = λ on. (ap count_of first ∙ (k.overflow on).0, ap overflow_slots_of first ∙ (k.overflow on).1);
+      header = subst (λ w. IsFreshHeader w (cond (is_long slots) 255 slots) class format) (sym (same (fresh_start at slots) p.low (omega (arith, p.end)))) k.header;
+      filled = λ j low high. same j (omega (arith, low, p.low)) (omega (arith, high, p.end)) ∙ k.filled j low high;
+    }
+
 -- ---- the chunk and the object
 
 module _ (words : List ℕ) (at class format slots fill : ℕ) (k : IsFreshRun words at class format slots fill) where

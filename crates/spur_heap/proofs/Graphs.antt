@@ -1,7 +1,8 @@
 -- The graph and the room of a store and of the same with other words in one ordinary object.
-use Rattle.std.proofs.Common.{◌≡◌, ◌≢◌, ℕ, Bool, true, cond, not, ◌&&◌, ◌==◌, ◌-◌, eqb, List, [], ◌∷◌, ◌++◌, map, refl, sym, ap, ◌∙◌, inl, inr, Some}
+use Rattle.std.proofs.Common.{◌≡◌, ◌≢◌, ℕ, Bool, true, cond, not, ◌&&◌, ◌==◌, ◌-◌, ◌+◌, eqb, List, [], ◌∷◌, ◌++◌, map, refl, sym, ap, ◌∙◌, inl, inr, Some}
 use Rattle.std.proofs.lemmas.Bool.{cases_Bool, cases_eq, and_parts, false_from_ne_true}
 use Rattle.std.proofs.lemmas.List.Elements.{filter_agree}
+use Rattle.std.proofs.lemmas.List.Sums.{sum_by-cons}
 use Rattle.std.specs.Option.{unwrap_or}
 use Rattle.std.specs.List.{filter, range_with_len, sum_by, count_by, list_any}
 use Rattle.std.specs.Ordering.{nat_cmp, eq_by_cmp}
@@ -13,16 +14,19 @@ use Rattle.spur_graph.specs.declared.limits.Limits.{Limits}
 use Rattle.spur_graph.specs.Value.{value_of}
 use Rattle.spur_graph.specs.Graph.{handle_cmp, with_node}
 use Rattle.object_header.specs.Chunks.{Chunk}
-use Rattle.spur_graph.specs.Cells.{Body, Store, body_of, first, pointers, units}
-use Rattle.spur_graph.specs.Ordinary.{class_limit, page_places, body_at, is_ordinary, ordinary_starts, has_page, entry}
+use Rattle.spur_graph.specs.Cells.{Body, Store, body_of, first, pointers, units, is_start}
+use Rattle.spur_graph.specs.Ordinary.{class_limit, page_places, body_at, is_internal, is_ordinary, ordinary_starts, has_page, entry}
 use Rattle.spur_graph.specs.CellGraph.{read, node_of, nodes_of, has_class, classes_of}
 use Rattle.spur_graph.specs.Room.{Space, Old, Eden, Past}
 use Rattle.spur_graph.specs.FreeSizes.{ascending}
+use Rattle.spur_graph.specs.CellRoom.{internal_chunks}
 use Rattle.spur_graph.specs.HeapRoom.{room_in, is_reached, spot_in, spots_of}
 use Rattle.spur_graph.specs.Heaps.{own_name, handle_values, graph_in, mourners_of}
 use Rattle.heap_cells.proofs.Members.{In, in_filter}
 use Rattle.heap_cells.proofs.Finding.{same_key, key_same}
-use Rattle.spur_heap.proofs.Changing.{changed, Swap, Change, cell-here, cell-other, kept, final-same, lead-same, reference-same, ordinary-same, internal-same, start-same, nil_slot-same, entry-same, has_class-same}
+use Rattle.spur_heap.proofs.InPlace.{changed, cell-here, cell-other, final-same, lead-same, start-same}
+use Rattle.spur_heap.proofs.Swap.{Swap, reference-same, ordinary-same, internal-same, inner-pinned, nil_slot-same}
+use Rattle.spur_heap.proofs.Changing.{Change, swap_of, entry-same, has_class-same}
 
 -- ---- tables
 
@@ -64,12 +68,20 @@ map_kept test f g e (j ∷ js) = elim (cases_Bool (test j)) [
   | inr off ↦ rw off (map_kept test f g e js)
 ]
 
+-- tests that agree where another holds
+count_kept : (test f g : Chunk → Bool) → ((c : Chunk) → test c ≡ true → f c ≡ g c) → (cs : List Chunk) → count_by f (filter test cs) ≡ count_by g (filter test cs)
+count_kept test f g e [] = refl
+count_kept test f g e (c ∷ cs) = elim (cases_Bool (test c)) [
+  | inl on ↦ rw on (sum_by-cons (λ d. cond (f d) 1 0) c (filter test cs) ∙ (λ x. cond (e c on x) 1 0 + count_kept test f g e cs x) ∙ sym (sum_by-cons (λ d. cond (g d) 1 0) c (filter test cs)))
+  | inr off ↦ rw off (count_kept test f g e cs)
+]
+
 -- ---- the change
 
 module _ {old : Store} {s : ℕ} {b : Body} {b' : Body} (k : Swap old s b b') where
   pub read-same : (w : ℕ) → read own_name (changed old s b') w ≡ read own_name old w
   unfolding read
-  read-same w = λ x. unwrap_or (value_of (λ v. cond (reference-same k v x) (Ref (unwrap_or (lead-same k.alike v x) (first old 0))) (Ref (first old 0))) w) (Ref (first old 0))
+  read-same w = λ x. unwrap_or (value_of (λ v. cond (reference-same k v x) (Ref (unwrap_or (lead-same k.place v x) (first old 0))) (Ref (first old 0))) w) (Ref (first old 0))
 
   pub node-same : (c : Body) → node_of own_name (changed old s b') c ≡ node_of own_name old c
   unfolding node_of
@@ -80,17 +92,20 @@ module _ {old : Store} {s : ℕ} {b : Body} {b' : Body} (k : Swap old s b b') wh
   starts-same = filter_agree (is_ordinary (changed old s b')) (is_ordinary old) (ordinary-same k) old.starts
 
   pub mourners-same : (groups : List (List ℕ)) → mourners_of (changed old s b') groups ≡ mourners_of old groups
-  mourners-same groups = λ x. map (map (λ t. final-same k.alike t x)) groups
+  mourners-same groups = λ x. map (map (λ t. final-same k.place t x)) groups
 
   reached-same : (cs : List Chunk) (t : ℕ) → is_reached (changed old s b') cs t ≡ is_reached old cs t
   unfolding is_reached
-  reached-same cs t = λ x. list_any (λ (c : Chunk). start-same k.alike c.start x && eqb (final-same k.alike c.start x) t) cs
+  reached-same cs t = λ x. list_any (λ (c : Chunk). start-same k.place c.start x && eqb (final-same k.place c.start x) t) cs
 
-  pub room-same : b'.pinned ≡ b.pinned → (front eden past : List Chunk) (words : ℕ) (limits : Limits) (eden_used past_used : ℕ)
+  pub room-same : (front eden past : List Chunk) (words : ℕ) (limits : Limits) (eden_used past_used : ℕ)
       → room_in (changed old s b') front eden past words limits eden_used past_used ≡ room_in old front eden past words limits eden_used past_used
   unfolding room_in
-  room-same flag front eden past words limits eden_used past_used =
-      let pinned : (t : ℕ) → (body_at (changed old s b') t).pinned ≡ (body_at old t).pinned = kept k.alike (λ c. (body_of c).pinned) flag in
+  room-same front eden past words limits eden_used past_used =
+      let pins : count_by (λ (c : Chunk). (body_at (changed old s b') c.start).pinned == 1) (internal_chunks (changed old s b') front) ≡ count_by (λ (c : Chunk). (body_at old c.start).pinned == 1) (internal_chunks old front) =
+      (λ x. count_by (λ (c : Chunk). (body_at (changed old s b') c.start).pinned == 1) (filter (λ (c : Chunk). start-same k.place c.start x && internal-same k c.start x) front))
+      ∙ count_kept (λ (c : Chunk). is_start (old.cell c.start) && is_internal old c.start) (λ (c : Chunk). (body_at (changed old s b') c.start).pinned == 1) (λ (c : Chunk). (body_at old c.start).pinned == 1)
+      (λ c e. ap (λ n. n == 1) (inner-pinned k c.start (and_parts (is_start (old.cell c.start)) (is_internal old c.start) e).1)) front in
       let ordinary : (cs : List Chunk) → filter (λ (c : Chunk). is_ordinary (changed old s b') c.start) cs ≡ filter (λ (c : Chunk). is_ordinary old c.start) cs =
       λ cs x. filter (λ (c : Chunk). ordinary-same k c.start x) cs in
       let spots : (space : Space) (cs : List Chunk) → spots_of space (changed old s b') cs ≡ spots_of space old cs =
@@ -101,11 +116,11 @@ module _ {old : Store} {s : ℕ} {b : Body} {b' : Body} (k : Swap old s b b') wh
         survivor_words = limits.survivor;
         spots = from_entries (spots Old front x ++ (spots Eden eden x ++ spots Past past x));
         old_names = sets.from_list (map (λ (c : Chunk). c.start) (filter (λ (c : Chunk). reached-same front c.start x) (ordinary (front ++ (eden ++ past)) x)));
-        free = ascending (map (λ (c : Chunk). c.size) (filter (λ (c : Chunk). not (start-same k.alike c.start x)) front));
+        free = ascending (map (λ (c : Chunk). c.size) (filter (λ (c : Chunk). not (start-same k.place c.start x)) front));
         eden_left = limits.eden - eden_used;
         past_used = past_used;
-        internal_words = sum_by (λ (c : Chunk). c.size) (filter (λ (c : Chunk). start-same k.alike c.start x && internal-same k c.start x) front);
-        internal_pinned = count_by (λ (c : Chunk). pinned c.start x == 1) (filter (λ (c : Chunk). start-same k.alike c.start x && internal-same k c.start x) front);
+        internal_words = sum_by (λ (c : Chunk). c.size) (filter (λ (c : Chunk). start-same k.place c.start x && internal-same k c.start x) front);
+        internal_pinned = pins x;
         pages = sets.from_list (filter (λ i. not (nil_slot-same k i x)) (range_with_len 0 page_places));
       }
 
@@ -115,10 +130,10 @@ module _ {old : Store} {s : ℕ} {b : Body} {b' : Body} (k : Change old s b b') 
   nodes-changed : In old.starts s → nodes_of own_name (changed old s b') ≡ insert (nodes_of own_name old) s (node_of own_name old b')
   unfolding nodes_of ordinary_starts
   nodes-changed m =
-      ap (λ ss. from_entries {R = nat_cmp} (map (λ t. (t, node_of own_name (changed old s b') (body_at (changed old s b') t))) ss)) (starts-same k.swap)
+      ap (λ ss. from_entries {R = nat_cmp} (map (λ t. (t, node_of own_name (changed old s b') (body_at (changed old s b') t))) ss)) (starts-same (swap_of k))
       ∙ table_changed (λ t. node_of own_name old (body_at old t)) (λ t. node_of own_name (changed old s b') (body_at (changed old s b') t)) s (node_of own_name old b')
-      (node-same k.swap (body_at (changed old s b') s) ∙ ap (λ c. node_of own_name old (body_of c)) (cell-here k.swap.alike))
-      (λ t n. node-same k.swap (body_at (changed old s b') t) ∙ ap (λ c. node_of own_name old (body_of c)) (cell-other k.swap.alike t n))
+      (node-same (swap_of k) (body_at (changed old s b') s) ∙ ap (λ c. node_of own_name old (body_of c)) (cell-here (swap_of k).place))
+      (λ t n. node-same (swap_of k) (body_at (changed old s b') t) ∙ ap (λ c. node_of own_name old (body_of c)) (cell-other (swap_of k).place t n))
       (ordinary_starts old) (in_filter (is_ordinary old) old.starts s m k.ordinary)
 
   classes-same : classes_of own_name (changed old s b') ≡ classes_of own_name old
@@ -129,9 +144,9 @@ module _ {old : Store} {s : ℕ} {b : Body} {b' : Body} (k : Change old s b b') 
       among n =
           ap (λ js. from_entries {R = nat_cmp} (map (λ j. (j, read own_name (changed old s b') (entry (changed old s b') j))) js)) (filter_agree (has_class (changed old s b')) (has_class old) (has_class-same k) (range_with_len 0 n))
           ∙ ap (λ es. from_entries {R = nat_cmp} es) (map_kept (has_class old) (λ j. (j, read own_name old (entry old j))) (λ j. (j, read own_name (changed old s b') (entry (changed old s b') j)))
-          (λ j e. let page = (and_parts (has_page old j) _ e).0 in let value : read own_name (changed old s b') (entry (changed old s b') j) ≡ read own_name old (entry old j) = read-same k.swap (entry (changed old s b') j) ∙ ap (read own_name old) (entry-same k j page) in λ x. (j, value x)) (range_with_len 0 n))
+          (λ j e. let page = (and_parts (has_page old j) _ e).0 in let value : read own_name (changed old s b') (entry (changed old s b') j) ≡ read own_name old (entry old j) = read-same (swap_of k) (entry (changed old s b') j) ∙ ap (read own_name old) (entry-same k j page) in λ x. (j, value x)) (range_with_len 0 n))
 
   pub graph-changed : In old.starts s → (special : ℕ) (held : FinMap handle_cmp ℕ) (groups : List (List ℕ)) (hash next : ℕ)
       → graph_in (changed old s b') special held groups hash next ≡ with_node (graph_in old special held groups hash next) s (node_of own_name old b')
   graph-changed m special held groups hash next =
-      λ x. record (graph_in old special held groups hash next) { nodes = nodes-changed m x; special = read-same k.swap special x; classes = classes-same x; handles = handle_values (λ w. read-same k.swap w x) held; mourners = mourners-same k.swap groups x }
+      λ x. record (graph_in old special held groups hash next) { nodes = nodes-changed m x; special = read-same (swap_of k) special x; classes = classes-same x; handles = handle_values (λ w. read-same (swap_of k) w x) held; mourners = mourners-same (swap_of k) groups x }

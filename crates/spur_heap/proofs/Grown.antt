@@ -1,9 +1,10 @@
 -- An object is made in eden: the heap is whole as before.
-use Rattle.std.proofs.Common.{◌≡◌, ◌≢◌, ℕ, true, false, cond, eqb, ◌+◌, ◌<◌, ◌≤◌, List, length, get_or, refl, sym, ap, ◌∙◌, subst, arith, inl, inr, length-append}
+use Rattle.std.proofs.Common.{◌≡◌, ◌≢◌, ℕ, true, false, cond, eqb, ltb, ◌+◌, ◌<◌, ◌≤◌, List, length, get_or, refl, sym, ap, ◌∙◌, subst, arith, inl, inr, length-append}
 use Rattle.std.proofs.lemmas.Bool.{false≢true}
 use Rattle.std.proofs.lemmas.List.{length-map}
 use Rattle.object_header.specs.Chunks.{Chunk}
 use Rattle.spur_graph.specs.Cells.{Body, body_of, Empty, There, is_start, is_formed, pointer_count, read_cell}
+use Rattle.spur_graph.specs.Room.{fresh_words, is_long}
 use Rattle.spur_graph.specs.Spaces.{old_row, young_row}
 use Rattle.spur_graph.specs.Ordinary.{is_good_word}
 use Rattle.spur_graph.specs.Heaps.{View, IsWhole, HasBits, IsYoung, store_of, chunks_of, heap_to, is_remembered, names_over}
@@ -17,7 +18,7 @@ use Rattle.heap_cells.proofs.Over.{over-starts}
 use Rattle.spur_heap.specs.Words.{starts_at}
 use Rattle.spur_heap.proofs.Touched.{same_bit}
 
--- words behind the used eden are a new object, whose slots are good, and which is neither remembered nor pinned
+-- words behind the used eden are a new object, whose slots are good, which is neither remembered nor pinned, and has the words of one that is made
 pub record IsMade (v : View) (new : List ℕ) (c : Chunk) (b : Body) : Type 0 where
   pub grows : Grows v.words new v.limits v.spaces c
   pub there : read_cell heap_to new c ≡ There b
@@ -26,6 +27,7 @@ pub record IsMade (v : View) (new : List ℕ) (c : Chunk) (b : Body) : Type 0 wh
   pub bits : HasBits v.phase (get_or new c.start 0)
   pub forgotten : is_remembered new c.start ≡ false
   pub mobile : b.pinned ≡ 0
+  pub form : (c.size ≡ fresh_words c.slots) × (ltb c.at c.start ≡ is_long c.slots)
 
 module _ (v : View) (new : List ℕ) (c : Chunk) (b : Body) (k : IsMade v new c b) (whole : IsWhole v) where
   abbrev pub made : View
@@ -81,11 +83,11 @@ module _ (v : View) (new : List ℕ) (c : Chunk) (b : Body) (k : IsMade v new c 
     sound = added-sound adds;
     inner = λ t e. whole.inner t (sym (added-internal adds t) ∙ e);
     young = λ d m. elim (young_before k.grows d (in_list (young_row new (grown v.spaces c.size)) d m)) [
-      | inl e ↦ subst (IsYoung (store_of made)) e (record { start = ap is_start (added-here adds); mobile = ap (λ x. (body_of x).pinned) (added-here adds) ∙ k.mobile })
+      | inl e ↦ subst (IsYoung (store_of made)) e (record { start = ap is_start (added-here adds); mobile = ap (λ x. (body_of x).pinned) (added-here adds) ∙ k.mobile; form = k.form })
       | inr a ↦
           let y = whole.young d (listed (young_row v.words v.spaces) d a) in
           let other : d.start ≢ c.start = apart d (in_right (old_row v.words v.spaces) (young_row v.words v.spaces) d a) in
-          record { start = ap is_start (added-other adds d.start other) ∙ y.start; mobile = ap (λ x. (body_of x).pinned) (added-other adds d.start other) ∙ y.mobile }
+          record { start = ap is_start (added-other adds d.start other) ∙ y.start; mobile = ap (λ x. (body_of x).pinned) (added-other adds d.start other) ∙ y.mobile; form = y.form }
     ];
     bits = λ d m. elim (in_before k.grows d (in_list (chunks_of made) d m)) [
       | inl e ↦ subst (λ (x : Chunk). HasBits v.phase (get_or new x.start 0)) e k.bits

@@ -10,7 +10,7 @@ use Rattle.spur_graph.specs.Room.{placed, fresh_spot, fresh_words, is_old}
 use Rattle.spur_graph.specs.Serve.{Source, Served, serve}
 use Rattle.spur_graph.specs.Instances.{fresh_node}
 use Rattle.spur_graph.specs.Spaces.{Spaces}
-use Rattle.spur_graph.specs.Cells.{Body, body_of, first, is_start}
+use Rattle.spur_graph.specs.Cells.{Body, Store, body_of, first, is_start}
 use Rattle.spur_graph.specs.CellGraph.{node_of}
 use Rattle.spur_graph.specs.Ordinary.{is_good_word}
 use Rattle.spur_graph.specs.Heaps.{View, IsWhole, store_of, chunks_of, heap_to, own_name, heap_graph, heap_room, heap_value, graph_in}
@@ -86,10 +86,10 @@ module _ (v : View) (whole : IsWhole v) (new : List ℕ) (sp : Spaces) (class fo
     objects = objects;
   }
 
-  -- one start more is in the map
-  pub starts_made : (old st : StartMap) → ((t : ℕ) → has_start old t ≡ is_start ((store_of v).cell t)) → has_start st s ≡ true → ((t : ℕ) → t ≢ s → has_start st t ≡ has_start old t)
-      → (t : ℕ) → has_start st t ≡ is_start ((store_of u).cell t)
-  starts_made old st was here others t = elim (cases_eq t s) [
-    | inl e ↦ ap (has_start st) e ∙ here ∙ sym (ap (λ n. is_start ((store_of u).cell n)) e ∙ ap is_start (added-here adds))
-    | inr n ↦ others t n ∙ was t ∙ sym (ap is_start (added-other adds t n))
-  ]
+-- one start more is in the map
+pub starts_made : {old new : Store} {s : ℕ} {b : Body} → Adds old new s b → (map then : StartMap) → ((t : ℕ) → has_start map t ≡ is_start (old.cell t)) → has_start then s ≡ true
+    → ((t : ℕ) → t ≢ s → has_start then t ≡ has_start map t) → (t : ℕ) → has_start then t ≡ is_start (new.cell t)
+starts_made {new = new} {s = s} adds map then was here others t = elim (cases_eq t s) [
+  | inl e ↦ ap (has_start then) e ∙ here ∙ sym (ap (λ n. is_start (new.cell n)) e ∙ ap is_start (added-here adds))
+  | inr n ↦ others t n ∙ was t ∙ sym (ap is_start (added-other adds t n))
+]

@@ -6,7 +6,9 @@ use Rattle.std.specs.Option.{unwrap_or}
 use Rattle.std.specs.Cmp.{nat_cmp_total}
 use Rattle.std.specs.FinMap.{get, get-from_entries}
 use Rattle.object_header.specs.Chunks.{Chunk}
-use Rattle.spur_graph.specs.Graph.{node, blank}
+use Rattle.spur_graph.specs.declared.answer.Value.{Value}
+use Rattle.spur_graph.specs.declared.answer.Value.TheVariants.{Ref}
+use Rattle.spur_graph.specs.Graph.{node, node_at, blank}
 use Rattle.spur_graph.specs.Cells.{Store, is_there, cell_in, read_cell}
 use Rattle.spur_graph.specs.Ordinary.{body_at, is_ordinary, is_internal, ordinary_starts}
 use Rattle.spur_graph.specs.CellGraph.{node_of, nodes_of}
@@ -51,3 +53,7 @@ get_there v s there =
 
 pub node_there : (v : View) (s : ℕ) → IsOrdinary v s → node (heap_graph v) s ≡ node_in v s
 node_there v s there = ap (λ o. unwrap_or o blank) (get_there v s there)
+
+-- the node of the object that a value names
+pub node_named : (v : View) (s : ℕ) (x : Value) → IsOrdinary v s → x ≡ Ref s → node_at (heap_graph v) x ≡ node_in v s
+node_named v s x there is = ap (node_at (heap_graph v)) is ∙ node_there v s there

@@ -12,7 +12,7 @@ use Rattle.heap_cells.proofs.Bodies.{IsLike, with_words}
 use Rattle.heap_cells.proofs.Entries.{place_below}
 use Rattle.heap_cells.proofs.Internals.{a_page, not_first}
 use Rattle.heap_cells.proofs.References.{ordinary_apart}
-use Rattle.spur_heap.proofs.Changing.{changed, Alike, cell-here, cell-other, kept, there-same, format-same, length-same, final-same, lead-same, targets-same, ends-same, formed-same}
+use Rattle.spur_heap.proofs.InPlace.{changed, Alike, cell-here, cell-other, kept, there-same, format-same, length-same, final-same, lead-same, targets-same, ends-same, formed-same}
 
 -- an ordinary object with the shape of a page and entries that lead to nil, that no ordinary object, no entry and no place of the hidden roots names; its
 -- place there names nil
@@ -49,21 +49,21 @@ module _ {old : Store} {i w s : ℕ} {r : Body} (k : Pages old i w s r) where
   }
 
   pub alike : Alike old (first old 4) r paged_roots
-  alike = record { there = k.there; class = refl; format = refl; like = like }
+  alike = record { place = record { there = k.there }; class = refl; format = refl; like = like }
 
   pub paged-final : (t : ℕ) → final paged t ≡ final old t
-  paged-final = final-same alike
+  paged-final = final-same alike.place
 
   pub paged-lead : (v : ℕ) → lead paged v ≡ lead old v
-  paged-lead = lead-same alike
+  paged-lead = lead-same alike.place
 
   -- ---- the hidden roots
 
   root-here : root_slot paged i ≡ w
-  root-here = ap (λ c. get_or (body_of c).words i 0) (cell-here alike) ∙ get_or-set_same r.words i w 0 roots_long
+  root-here = ap (λ c. get_or (body_of c).words i 0) (cell-here alike.place) ∙ get_or-set_same r.words i w 0 roots_long
 
   root-other : (j : ℕ) → j ≢ i → root_slot paged j ≡ root_slot old j
-  root-other j n = ap (λ c. get_or (body_of c).words j 0) (cell-here alike) ∙ get_or-set_other r.words i j w 0 n ∙ sym (ap (λ (b : Body). get_or b.words j 0) roots_there)
+  root-other j n = ap (λ c. get_or (body_of c).words j 0) (cell-here alike.place) ∙ get_or-set_other r.words i j w 0 n ∙ sym (ap (λ (b : Body). get_or b.words j 0) roots_there)
 
   tells-here : (t : ℕ) → tells paged i t ≡ eqb s t
   tells-here t = ap (λ u. is_at t (old.to u)) root-here ∙ ap (is_at t) k.named
@@ -108,7 +108,7 @@ module _ {old : Store} {i w s : ℕ} {r : Body} (k : Pages old i w s r) where
       (λ x. not (ne_eqb s (first old 0) (not_one 0 (omega arith)) x) && any_below-has (λ j. tells paged j s) page_places i k.place (tells-here s ∙ eq-eqb s s refl) x)
 
   pub ordinary-other : (t : ℕ) → t ≢ s → is_ordinary paged t ≡ is_ordinary old t
-  ordinary-other t n = λ x. there-same alike t x && not (internal-other t n x)
+  ordinary-other t n = λ x. there-same alike.place t x && not (internal-other t n x)
 
   pub ordinary-here : is_ordinary paged s ≡ false
   ordinary-here = and_right _ _ (ap not internal-here)
@@ -134,7 +134,7 @@ module _ {old : Store} {i w s : ℕ} {r : Body} (k : Pages old i w s r) where
   unfolding is_page
   page-here =
       let body : is_page_body (body_at paged s) ≡ true = (λ x. eqb (format-same alike s x) 2 && eqb (length-same alike s x) page_entries) ∙ k.body in
-      let there : is_there (paged.cell s) ≡ true = there-same alike s ∙ (and_parts (is_there (old.cell s)) (not (is_internal old s)) k.ordinary).0 in
+      let there : is_there (paged.cell s) ≡ true = there-same alike.place s ∙ (and_parts (is_there (old.cell s)) (not (is_internal old s)) k.ordinary).0 in
       let none : any_below (λ j. tells paged j s) i ≡ false = any_below-none (λ j. tells paged j s) i (λ j l. tells-other j s (λ e. omega (arith, e, l)) ∙ untold j (let p = k.place in omega (arith, l, p))) in
       ap (passes (λ t. is_there (paged.cell t) && is_page_body (body_at paged t) && not (is_first old t) && not (any_below (λ j. tells paged j t) i))) (ap old.to root-here ∙ k.named)
       ∙ (λ x. there x && body x && not (k.later x) && not (none x))
@@ -159,7 +159,7 @@ module _ {old : Store} {i w s : ℕ} {r : Body} (k : Pages old i w s r) where
       let body : is_page_body (body_at paged p) ≡ is_page_body (body_at old p) = λ x. eqb (format-same alike p x) 2 && eqb (length-same alike p x) page_entries in
       let same : any_below (λ m. tells paged m p) j ≡ any_below (λ m. tells old m p) j = any_below-same (λ m. tells paged m p) (λ m. tells old m p) j (λ m b. tells-same m p (page_apart j l p q.is) (not_first old p 0 (omega arith) later)) in
       ap (passes (λ t. is_there (paged.cell t) && is_page_body (body_at paged t) && not (is_first old t) && not (any_below (λ m. tells paged m t) j))) (ap old.to (root-other j n) ∙ q.is)
-      ∙ (λ x. there-same alike p x && body x && not (is_first old p) && not (same x)) ∙ q.holds
+      ∙ (λ x. there-same alike.place p x && body x && not (is_first old p) && not (same x)) ∙ q.holds
 
   good_page : (j : ℕ) → j < page_places → is_bad_page paged j ≡ false
   good_page j l = elim (cases_eq j i) [
@@ -188,7 +188,7 @@ module _ {old : Store} {i w s : ℕ} {r : Body} (k : Pages old i w s r) where
   lead-here j e =
       let page : page_of paged j ≡ s = ap (λ m. unwrap_or (old.to (root_slot paged m)) old.names) e ∙ ap (λ u. unwrap_or (old.to u) old.names) root-here ∙ ap (λ o. unwrap_or o old.names) k.named in
       let is : entry paged j ≡ get_or (body_at old s).words (j % page_entries) 0 =
-      ap (λ q. get_or (body_at paged q).words (j % page_entries) 0) page ∙ ap (λ c. get_or (body_of c).words (j % page_entries) 0) (cell-other alike s (not_one 4 (omega arith))) in
+      ap (λ q. get_or (body_at paged q).words (j % page_entries) 0) page ∙ ap (λ c. get_or (body_of c).words (j % page_entries) 0) (cell-other alike.place s (not_one 4 (omega arith))) in
       ap (lead paged) is ∙ paged-lead (get_or (body_at old s).words (j % page_entries) 0) ∙ k.entries (j % page_entries) (omega arith)
 
   pub entry-other : (j : ℕ) → has_page old j ≡ true → entry paged j ≡ entry old j
@@ -201,7 +201,7 @@ module _ {old : Store} {i w s : ℕ} {r : Body} (k : Pages old i w s r) where
       let is : page_of old j ≡ p.0 = ap (λ o. unwrap_or o old.names) p.1.named in
       let far : page_of old j ≢ first old 4 = λ e. not_first old p.0 4 (omega arith) p.1.later (sym is ∙ e) in
       ap (λ u. get_or (body_at paged (unwrap_or (old.to u) old.names)).words (j % page_entries) 0) (root-other (j / page_entries) n)
-      ∙ ap (λ c. get_or (body_of c).words (j % page_entries) 0) (cell-other alike (page_of old j) far)
+      ∙ ap (λ c. get_or (body_of c).words (j % page_entries) 0) (cell-other alike.place (page_of old j) far)
 
   pub lead-other : (j : ℕ) → has_page old j ≡ true → lead paged (entry paged j) ≡ lead old (entry old j)
   lead-other j on = ap (lead paged) (entry-other j on) ∙ paged-lead (entry old j)
@@ -215,7 +215,7 @@ module _ {old : Store} {i w s : ℕ} {r : Body} (k : Pages old i w s r) where
       let leads : lead old (entry old hash) ≡ Some t = at-named t (lead old (entry old hash)) parts.1 in
       let other : t ≢ s = λ e. k.unentered hash parts.0 (leads ∙ ap (λ u. Some u) e) in
       let has : has_entry paged hash t ≡ has_entry old hash t = λ x. paged-has_page hash (elsewhere hash parts.0) x && is_at t (lead-other hash parts.0 x) in
-      (λ x. ordinary-other t other x && not (is_no_index (kept alike (λ c. (body_of c).hash) refl t x)) && (ap (λ m. has_entry paged m t) (kept alike (λ c. (body_of c).hash) refl t) ∙ has) x) ∙ on
+      (λ x. ordinary-other t other x && not (is_no_index (kept alike.place (λ c. (body_of c).hash) refl t x)) && (ap (λ m. has_entry paged m t) (kept alike.place (λ c. (body_of c).hash) refl t) ∙ has) x) ∙ on
 
   stays_at : (j t : ℕ) → (eqb t (first old 0) || (not (eqb j 0) && is_entered old t)) ≡ true → (eqb t (first old 0) || (not (eqb j 0) && is_entered paged t)) ≡ true
   stays_at j t on = elim (or_cases (eqb t (first old 0)) (not (eqb j 0) && is_entered old t) on) [
@@ -247,7 +247,7 @@ module _ {old : Store} {i w s : ℕ} {r : Body} (k : Pages old i w s r) where
     | inr n ↦ elim (cases_Bool (is_ordinary old t)) [
       | inr off ↦ and_left _ _ (and_left _ _ (ordinary-other t n ∙ off))
       | inl on ↦
-          let body : body_at paged t ≡ body_at old t = ap body_of (cell-other alike t (ordinary_apart old t on).0) in
+          let body : body_at paged t ≡ body_at old t = ap body_of (cell-other alike.place t (ordinary_apart old t on).0) in
           elim (cases_Bool (ltb j (pointer_count (body_at old t)))) [
             | inr off ↦ and_left _ _ (and_right _ _ (ap (λ b. ltb j (pointer_count b)) body ∙ off))
             | inl low ↦
@@ -260,7 +260,7 @@ module _ {old : Store} {i w s : ℕ} {r : Body} (k : Pages old i w s r) where
   roots : HasRoots paged
   roots = record {
     five = k.sound.roots.five;
-    objects = λ j l. there-same alike (first old j) ∙ k.sound.roots.objects j l;
+    objects = λ j l. there-same alike.place (first old j) ∙ k.sound.roots.objects j l;
     outer = λ j l. internal-other (first old j) (λ e. not_one j (omega (arith, l)) (sym e)) ∙ k.sound.roots.outer j l;
     lists = let e = format-same alike (first old 3) in let l = k.sound.roots.lists in omega (arith, e, l);
     roots = (format-same alike (first old 4) ∙ k.sound.roots.roots.0, length-same alike (first old 4) ∙ k.sound.roots.roots.1);
@@ -272,8 +272,8 @@ module _ {old : Store} {i w s : ℕ} {r : Body} (k : Pages old i w s r) where
   pub paged_sound : IsSound paged
   paged_sound = record {
     formed = formed-same alike k.sound;
-    targets = targets-same alike k.sound;
-    ends = ends-same alike k.sound;
+    targets = targets-same alike.place k.sound;
+    ends = ends-same alike.place k.sound;
     roots = roots;
     slots = slots;
   }

@@ -1,10 +1,10 @@
 -- The graph of a store in which an object that nothing names became a page: the graph without its node.
-use Rattle.std.proofs.Common.{◌≡◌, ◌≢◌, ℕ, suc, zero, Bool, true, false, not, cond, ◌&&◌, ◌==◌, ◌/◌, ◌<◌, eqb, List, [], ◌∷◌, map, take, length, get_or, refl, sym, ap, ◌∙◌, arith, inl, inr, Some, None, Option}
+use Rattle.std.proofs.Common.{◌≡◌, ◌≢◌, ℕ, suc, Bool, true, false, not, cond, ◌&&◌, ◌==◌, ◌/◌, ◌<◌, List, [], ◌∷◌, map, length, get_or, refl, sym, ap, ◌∙◌, arith, inl, inr, Some, None}
 use Rattle.std.proofs.lemmas.Bool.{cases_Bool, cases_eq, eq-eqb, and_parts, and_left, and_right, false_from_ne_true}
 use Rattle.std.proofs.lemmas.List.{get_or-take, length-take}
 use Rattle.std.proofs.lemmas.List.Elements.{filter_agree}
 use Rattle.std.specs.Option.{unwrap_or}
-use Rattle.std.specs.List.{Contains, filter, range_with_len}
+use Rattle.std.specs.List.{filter, range_with_len}
 use Rattle.std.specs.Ordering.{nat_cmp, eq_by_cmp}
 use Rattle.std.specs.Cmp.{nat_cmp_total}
 use Rattle.std.specs.FinMap.{FinMap, get, insert, from_entries, find, get-from_entries, get-insert, same_map, nat_cmp-IsAntisymmetric}
@@ -15,11 +15,11 @@ use Rattle.spur_graph.specs.Cells.{Body, Store, body_of, first, lead, pointer_co
 use Rattle.spur_graph.specs.Ordinary.{class_limit, page_entries, is_at, body_at, is_ordinary, is_good_reference, ordinary_starts, has_page, entry}
 use Rattle.spur_graph.specs.CellGraph.{read, node_of, nodes_of, has_class, classes_of}
 use Rattle.spur_graph.specs.Heaps.{own_name, mourners_of}
-use Rattle.heap_cells.proofs.Finding.{key_same, same_key}
+use Rattle.heap_cells.proofs.Finding.{key_same}
 use Rattle.heap_cells.proofs.References.{ordinary_apart}
-use Rattle.spur_heap.proofs.Changing.{cell-other}
+use Rattle.spur_heap.proofs.InPlace.{cell-other}
 use Rattle.spur_heap.proofs.Graphs.{map_kept}
-use Rattle.spur_heap.proofs.Paged.{Pages, paged, alike, paged-final, paged-lead, reference-other, ordinary-other, ordinary-here, nil_place, elsewhere, paged-has_page, lead-here, lead-other, entry-other}
+use Rattle.spur_heap.proofs.Paged.{Pages, paged, alike, paged-final, paged-lead, reference-other, ordinary-other, ordinary-here, nil_place, paged-has_page, lead-here, lead-other, entry-other}
 
 -- functions that agree on the elements of a list
 map_agree : {X : Type 0} (f g : ℕ → X) (ws : List ℕ) → ((j : ℕ) → j < length ws → f (get_or ws j 0) ≡ g (get_or ws j 0)) → map f ws ≡ map g ws
@@ -67,7 +67,7 @@ module _ {old : Store} {i w s : ℕ} {r : Body} (k : Pages old i w s r) where
   node-kept : (t : ℕ) → is_ordinary old t ≡ true → t ≢ s → node_of own_name new (body_at new t) ≡ node_of own_name old (body_at old t)
   unfolding node_of
   node-kept t on n =
-      let body : body_at new t ≡ body_at old t = ap body_of (cell-other (alike k) t (ordinary_apart old t on).0) in
+      let body : body_at new t ≡ body_at old t = ap body_of (cell-other (alike k).place t (ordinary_apart old t on).0) in
       let b : Body = body_at old t in
       let values : map (read own_name new) (pointers b) ≡ map (read own_name old) (pointers b) =
       map_agree (read own_name new) (read own_name old) (pointers b) (λ j l.

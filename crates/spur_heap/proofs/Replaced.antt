@@ -13,9 +13,11 @@ use Rattle.heap_cells.proofs.References.{ordinary_there}
 use Rattle.spur_heap.specs.Words.{body_in, is_good}
 use Rattle.spur_heap.proofs.Hops.{start_at}
 use Rattle.spur_heap.proofs.OneCell.{with_cell}
-use Rattle.spur_heap.proofs.Touched.{Touch, Keeps, Fits, touched_store, touched_whole, touched_graph, touched_room}
+use Rattle.spur_heap.proofs.Touched.{Touch, Holds, Fits, touched_store, held_whole, touched_graph, touched_room}
 use Rattle.spur_heap.proofs.Tables.{SameTables, touched_tables}
-use Rattle.spur_heap.proofs.Changing.{changed, Change, internal-same, ordinary-same, reference-same, good-same, sound_changed, mourners_kept}
+use Rattle.spur_heap.proofs.InPlace.{changed}
+use Rattle.spur_heap.proofs.Swap.{Swap, Fires, internal-same, ordinary-same, reference-same, good-same, mourners_kept}
+use Rattle.spur_heap.proofs.Changing.{Change, swap_of, sound_changed}
 use Rattle.spur_heap.proofs.Graphs.{read-same, graph-changed, room-same}
 
 module _ (v : View) (s : ℕ) (new : List ℕ) (b : Body) (touch : Touch v new s (There b)) (change : Change (store_of v) s (body_in v s) b) where
@@ -25,39 +27,46 @@ module _ (v : View) (s : ℕ) (new : List ℕ) (b : Body) (touch : Touch v new s
   object : is_there ((store_of v).cell s) ≡ true
   object = ordinary_there (store_of v) s change.ordinary
 
-  keeps : Keeps (store_of v) (with_cell (store_of v) s (There b))
-  keeps = record {
+  pub swap : Swap (store_of v) s (body_in v s) b
+  swap = swap_of change
+
+  holds : Fires swap v.mourners → IsWhole v → Holds v (with_cell (store_of v) s (There b))
+  holds fires whole = record {
     sound = sound_changed change;
-    internal = λ t e. sym (internal-same change.swap t) ∙ e;
-    goods = λ u e. good-same change.swap u ∙ e;
-    references = λ u e. reference-same change.swap u ∙ e;
-    mourners = mourners_kept change.swap;
+    inner = λ t e. whole.inner t (sym (internal-same swap t) ∙ e);
+    held = λ h w e. good-same swap w ∙ whole.held h w e;
+    special = reference-same swap v.special ∙ whole.special_there;
+    mourners = mourners_kept swap v.mourners fires whole.mourners;
   }
 
-  pub replaced_whole : Fits v new s (There b) → IsWhole v → IsWhole then
-  replaced_whole fits whole = touched_whole v new s (There b) touch fits keeps whole
+  -- what is to stand where a mourner leads has fired
+  abbrev pub HasFiredThen : Type 0
+  HasFiredThen = Fires swap v.mourners
 
-  store-changed : store_of then ≡ changed (store_of v) s b
-  store-changed = touched_store v new s (There b) touch
+  pub replaced_whole : Fits v new s (There b) → HasFiredThen → IsWhole v → IsWhole then
+  replaced_whole fits fires whole = held_whole v new s (There b) touch fits (holds fires whole) whole
+
+  pub replaced_store : store_of then ≡ changed (store_of v) s b
+  replaced_store = touched_store v new s (There b) touch
 
   pub replaced_tables : SameTables v then
-  replaced_tables = touched_tables v new s (There b) touch (there_starts ((store_of v).cell s) object) refl (ordinary-same change.swap)
+  replaced_tables = touched_tables v new s (There b) touch (there_starts ((store_of v).cell s) object) refl (ordinary-same swap)
 
   pub replaced_ordinary : (t : ℕ) → is_ordinary (store_of then) t ≡ is_ordinary (store_of v) t
-  replaced_ordinary t = ap (λ (h : Store). is_ordinary h t) store-changed ∙ ordinary-same change.swap t
+  replaced_ordinary t = ap (λ (h : Store). is_ordinary h t) replaced_store ∙ ordinary-same swap t
 
   pub replaced_good : (u : ℕ) → is_good then u ≡ is_good v u
-  replaced_good u = ap (λ (h : Store). is_good_word h u) store-changed ∙ good-same change.swap u
+  replaced_good u = ap (λ (h : Store). is_good_word h u) replaced_store ∙ good-same swap u
 
   pub replaced_value : (u : ℕ) → heap_value then u ≡ heap_value v u
-  replaced_value u = ap (λ (h : Store). read own_name h u) store-changed ∙ read-same change.swap u
+  replaced_value u = ap (λ (h : Store). read own_name h u) replaced_store ∙ read-same swap u
 
   pub replaced_graph : heap_graph then ≡ with_node (heap_graph v) s (node_of own_name (store_of v) b)
   replaced_graph =
       touched_graph v new s (There b) touch
       ∙ graph-changed change (in_list (starts_of (chunks_of v)) s (start_at v touch.sound s (there_starts ((store_of v).cell s) object)).stands) v.special v.handles v.mourners v.hash (length v.words)
 
-  pub replaced_room : b.pinned ≡ (body_in v s).pinned → heap_room then ≡ heap_room v
-  replaced_room flag =
+  pub replaced_room : heap_room then ≡ heap_room v
+  replaced_room =
       touched_room v new s (There b) touch
-      ∙ room-same change.swap flag (old_row v.words v.spaces) (eden_row v.words v.spaces) (past_row v.words v.spaces) v.spaces.old_end v.limits v.spaces.eden_used v.spaces.past_used
+      ∙ room-same swap (old_row v.words v.spaces) (eden_row v.words v.spaces) (past_row v.words v.spaces) v.spaces.old_end v.limits v.spaces.eden_used v.spaces.past_used

@@ -22,7 +22,7 @@ use Rattle.spur_heap.proofs.Figures.{sizes_told}
 use Rattle.spur_heap.proofs.Puts.{whole_sound}
 use Rattle.spur_heap.proofs.Orders.{order}
 
-map_in : {X Y : Type 0} (f : X → Y) (xs : List X) (x : X) → In xs x → In (map f xs) (f x)
+pub map_in : {X Y : Type 0} (f : X → Y) (xs : List X) (x : X) → In xs x → In (map f xs) (f x)
 map_in f [] x k = absurd k
 map_in f (y ∷ ys) x k = elim k [ inl e ↦ inl (ap f e) | inr m ↦ inr (map_in f ys x m) ]
 

@@ -1,4 +1,4 @@
--- A free chunk of old space gives its low words to a fresh object, and the rest of it stays a free chunk.
+-- A free chunk of old space gives its low words away, and the rest of it stays a free chunk: what other words and chunks are then.
 use Rattle.std.proofs.Common.{◌≡◌, ◌⊎◌, ℕ, Bool, true, false, cond, not, ◌+◌, ◌-◌, ◌<◌, ◌≤◌, eqb, ltb, List, [], ◌∷◌, ◌++◌, map, length, get_or, refl, sym, ap, ◌∙◌, subst, arith, inl, inr, append_assoc}
 use Rattle.std.proofs.lemmas.Bool.{false≢true, cases_Bool, cases_eq, cases_lt, eq-eqb, ltb-true, ltb-false}
 use Rattle.std.specs.List.{Contains}
@@ -7,15 +7,14 @@ use Rattle.std.proofs.lemmas.List.Elements.{Contains-append_right, Contains-appe
 use Rattle.std.proofs.lemmas.List.Sorted.{IsPermutation-middle}
 use Rattle.object_header.specs.Head.{class_of}
 use Rattle.object_header.specs.Fields.{fields_of}
-use Rattle.object_header.specs.Chunks.{Chunk, leads, slots_told, chunk_of, IsChunk, Cuts, InOrder}
-use Rattle.spur_graph.specs.Cells.{Empty, There, read_cell}
-use Rattle.spur_graph.specs.Room.{fresh_words}
+use Rattle.object_header.specs.Chunks.{Chunk, Cuts}
+use Rattle.spur_graph.specs.Cells.{Empty, read_cell}
 use Rattle.spur_graph.specs.Spaces.{old_row, young_row}
 use Rattle.spur_graph.specs.Heaps.{View, IsWhole, HasBits, chunks_of, heap_to, is_remembered}
 use Rattle.heap_cells.proofs.Appending.{read-free}
 use Rattle.heap_cells.proofs.Members.{In, listed, in_either, in_left, in_right}
 use Rattle.heap_cells.proofs.Cutting.{stands}
-use Rattle.heap_cells.proofs.Splitting.{Splits, StandsAs, words_kept}
+use Rattle.heap_cells.proofs.Splitting.{StandsAs, words_kept}
 use Rattle.object_header.specs.Fields.{free_header}
 use Rattle.free_lists.specs.Runs.{IsFree, covers, cover}
 use Rattle.free_lists.specs.Rows.{free_runs, with_run, written}
@@ -23,124 +22,29 @@ use Rattle.free_lists.specs.Rows as lists
 use Rattle.free_lists.specs.Lists.{Lists, IsOutside, Takes, rest_of}
 use Rattle.free_lists.specs.declared.lists.FreeLists.{FreeLists}
 use Rattle.free_lists.proofs.Covers.{covers-inside, covers-outside, cover-cons, cover-append}
-use Rattle.free_lists.proofs.Ordered.{contains_cons}
 use Rattle.free_lists.proofs.Given.{keeps_lists}
 use Rattle.free_lists.proofs.Rebuilt.{free_runs-append}
-use Rattle.free_lists.proofs.Written.{IsWritten, free_is_written}
-use Rattle.spur_heap.specs.Fresh.{fresh_chunk, fresh_body, fill_word, IsFreshRun, SameOutside}
-use Rattle.spur_heap.specs.Allocating.{CanMake}
+use Rattle.free_lists.proofs.Written.{free_is_written}
+use Rattle.spur_heap.specs.Fresh.{SameOutside}
+use Rattle.spur_heap.proofs.Among.{IsAmong, find_among, runs-free, same_place, no_runs, free_kept}
 use Rattle.spur_heap.proofs.FreeRuns.{covered_by}
-use Rattle.spur_heap.proofs.FreshRuns.{fresh_is_chunk, fresh_is_there}
 use Rattle.spur_heap.proofs.Puts.{whole_sound}
 use Rattle.spur_heap.proofs.Orders.{order}
 use Rattle.spur_heap.proofs.Rebuilt.{free_bits, run_in, short_count}
 use Rattle.spur_heap.proofs.RunSizes.{told_free}
 
--- ---- free chunks of a row
+-- ---- the low words of a chunk were taken, and these alone were written
 
--- a free run is that of a chunk
-pub record IsAmong (words : List ℕ) (cs : List Chunk) (x : ℕ × ℕ) : Type 0 where
-  pub before : List Chunk
-  pub behind : List Chunk
-  pub chunk : Chunk
-  pub is : cs ≡ before ++ chunk ∷ behind
-  pub free : lists.is_free (get_or words chunk.start 0) ≡ true
-  pub run : (chunk.at, chunk.size) ≡ x
-
-among_more : (words : List ℕ) (c : Chunk) (cs : List Chunk) (x : ℕ × ℕ) → IsAmong words cs x → IsAmong words (c ∷ cs) x
-among_more words c cs x a = record { before = c ∷ a.before; behind = a.behind; chunk = a.chunk; is = ap (λ ds. c ∷ ds) a.is; free = a.free; run = a.run }
-
-find_among : (words : List ℕ) (cs : List Chunk) (x : ℕ × ℕ) → Contains (free_runs words cs) x → IsAmong words cs x
-unfolding free_runs
-find_among words [] x there = absurd (omega (arith, there.1))
-find_among words (c ∷ cs) x there = elim (cases_Bool (lists.is_free (get_or words c.start 0))) [
-  | inl on ↦
-      let all : Contains ((c.at, c.size) ∷ free_runs words cs) x = rw on at there in
-      elim (contains_cons (c.at, c.size) (free_runs words cs) x all) [
-        | inl e ↦ record { before = []; behind = cs; chunk = c; is = refl; free = on; run = e }
-        | inr rest ↦ among_more words c cs x (find_among words cs x rest)
-      ]
-  | inr off ↦ let rest : Contains (free_runs words cs) x = rw off at there in among_more words c cs x (find_among words cs x rest)
-]
-
-runs-free : (words : List ℕ) (c : Chunk) (cs : List Chunk) → lists.is_free (get_or words c.start 0) ≡ true → free_runs words (c ∷ cs) ≡ (c.at, c.size) ∷ free_runs words cs
-unfolding free_runs
-runs-free words c cs on = ap (λ b. with_run b (c.at, c.size) (free_runs words cs)) on
-
-pub runs-other : (words : List ℕ) (c : Chunk) (cs : List Chunk) → lists.is_free (get_or words c.start 0) ≡ false → free_runs words (c ∷ cs) ≡ free_runs words cs
-unfolding free_runs
-runs-other words c cs off = ap (λ b. with_run b (c.at, c.size) (free_runs words cs)) off
-
--- two chunks of a row that share a word are one
-same_place : (words : List ℕ) (at end : ℕ) (cs : List Chunk) (c d : Chunk) (j : ℕ) → InOrder words at end cs → In cs c → In cs d → c.at ≤ j → j < c.at + c.size → d.at ≤ j → j < d.at + d.size → c ≡ d
-same_place words at end [] c d j t k m c_low c_high d_low d_high = absurd k
-same_place words at end (x ∷ xs) c d j t k m c_low c_high d_low d_high = elim k [
-  | inl e ↦ elim m [
-    | inl same ↦ sym e ∙ same
-    | inr later ↦
-        let s = stands words (x.at + x.size) end xs d t.1.1 later in
-        let here : j < x.at + x.size = subst (λ (y : Chunk). j < y.at + y.size) (sym e) c_high in
-        absurd (omega (arith, s.lies.after, d_low, here))
-  ]
-  | inr later ↦ elim m [
-    | inl e ↦
-        let s = stands words (x.at + x.size) end xs c t.1.1 later in
-        let here : j < x.at + x.size = subst (λ (y : Chunk). j < y.at + y.size) (sym e) d_high in
-        absurd (omega (arith, s.lies.after, c_low, here))
-    | inr other ↦ same_place words (x.at + x.size) end xs c d j t.1.1 later other c_low c_high d_low d_high
-  ]
-]
-
-no_runs : (words : List ℕ) → free_runs words [] ≡ []
-unfolding free_runs
-no_runs words = refl
-
--- a chunk that is free before and after stands as it did
-module _ (words new : List ℕ) (d : Chunk) (chunk : IsChunk words d.at d) (was : IsFree words d.at d.size) (is : IsFree new d.at d.size) where
-  before : IsWritten words d.at d.size
-  before = free_is_written words d.at d.size was
-
-  after : IsWritten new d.at d.size
-  after = free_is_written new d.at d.size is
-
-  shape_is : d ≡ written d.at d.size
-  shape_is = chunk.is ∙ sym before.chunk.is
-
-  start_is : d.start ≡ (written d.at d.size).start
-  start_is = ap (λ (x : Chunk). x.start) shape_is
-
-  same_header : get_or new d.start 0 ≡ get_or words d.start 0
-  same_header = ap (λ s. get_or new s 0) start_is ∙ after.header ∙ sym before.header ∙ sym (ap (λ s. get_or words s 0) start_is)
-
-  same_slots : slots_told (get_or new d.at 0) ≡ slots_told (get_or words d.at 0)
-  unfolding chunk_of
-  same_slots = ap (λ (x : Chunk). x.slots) (sym after.chunk.is ∙ before.chunk.is)
-
-  free_kept : StandsAs words new d
-  free_kept = record {
-    keeps = record {
-      leads_first = sym after.chunk.twice ∙ ap leads (after.header ∙ sym before.header) ∙ before.chunk.twice;
-      slots = same_slots;
-      leads_start = ap leads same_header;
-    };
-    header = same_header;
-    cell = read-free heap_to new d (ap (λ s. class_of (get_or new s 0)) start_is ∙ after.class) ∙ sym (read-free heap_to words d (ap (λ s. class_of (get_or words s 0)) start_is ∙ before.class));
-  }
-
--- ---- the words of a chunk were taken, and an object was written in them
-
-pub record IsServed (v : View) (free free' : FreeLists) (mid new : List ℕ) (at class format slots : ℕ) : Type 0 where
+pub record IsServed (v : View) (free free' : FreeLists) (mid new : List ℕ) (at n : ℕ) : Type 0 where
   pub whole : IsWhole v
   pub lists : Lists v.words free (free_runs v.words (old_row v.words v.spaces))
-  pub takes : Takes mid free' (free_runs v.words (old_row v.words v.spaces)) (fresh_words slots) at
+  pub takes : Takes mid free' (free_runs v.words (old_row v.words v.spaces)) n at
   pub others : (j : ℕ) → IsOutside (free_runs v.words (old_row v.words v.spaces)) j → get_or mid j 0 ≡ get_or v.words j 0
   pub mid_long : length mid ≡ length v.words
-  pub can : CanMake class format slots
-  pub run : IsFreshRun new at class format slots (fill_word v format)
-  pub outside : SameOutside mid new at (fresh_words slots)
+  pub outside : SameOutside mid new at n
   pub long : length new ≡ length mid
 
-module _ {v : View} {free free' : FreeLists} {mid new : List ℕ} {at class format slots : ℕ} (k : IsServed v free free' mid new at class format slots) where
+module _ {v : View} {free free' : FreeLists} {mid new : List ℕ} {at n : ℕ} (k : IsServed v free free' mid new at n) where
   abbrev O : List Chunk
   O = old_row v.words v.spaces
 
@@ -149,9 +53,6 @@ module _ {v : View} {free free' : FreeLists} {mid new : List ℕ} {at class form
 
   abbrev runs : List (ℕ × ℕ)
   runs = free_runs v.words O
-
-  abbrev n : ℕ
-  n = fresh_words slots
 
   abbrev pub size : ℕ
   size = k.takes.size
@@ -188,7 +89,7 @@ module _ {v : View} {free free' : FreeLists} {mid new : List ℕ} {at class form
       ap (free_runs v.words) among.is ∙ free_runs-append v.words xs (f ∷ ys)
       ∙ ap (λ rs. FX ++ rs) (runs-free v.words f ys among.free ∙ ap (λ (x : ℕ × ℕ). x ∷ FY) among.run)
 
-  within : n ≤ size
+  pub within : n ≤ size
   within = elim k.takes.fitting.fits [ inl e ↦ omega (arith, e) | inr l ↦ omega (arith, l) ]
 
   parts_cover : (j : ℕ) → cover runs j ≡ cover FX j + (covers j (at, size) + cover FY j)
@@ -276,10 +177,7 @@ module _ {v : View} {free free' : FreeLists} {mid new : List ℕ} {at class form
             free_kept v.words new d s.chunk (free_before d there) (free_after d there)
       ]
 
-  -- ---- the chunks in place of the free one
-
-  abbrev pub c : Chunk
-  c = fresh_chunk at slots
+  -- ---- the rest of the free chunk
 
   abbrev pub rest : List Chunk
   rest = cond (ltb n size) (written (at + n) (size - n) ∷ []) []
@@ -325,22 +223,5 @@ module _ {v : View} {free free' : FreeLists} {mid new : List ℕ} {at class form
             sizes_are = refl;
           }
 
-  inside : at + n ≤ length new
+  pub inside : at + n ≤ length new
   inside = let free_here = k.lists.chunks (at, size) k.takes.fitting.there in omega (arith, free_here.inside, within, k.long, k.mid_long)
-
-  c_chunk : IsChunk new at c
-  c_chunk = fresh_is_chunk new at class format slots (fill_word v format) k.run
-
-  pub c_there : read_cell heap_to new c ≡ There (fresh_body class format slots (fill_word v format))
-  c_there = fresh_is_there new at class format slots (fill_word v format) k.run inside k.can.no_free k.can.no_forwarder
-
-  pub splits : Splits v.words new v.limits v.spaces xs ys f (c ∷ rest)
-  splits = record {
-    spaces = k.whole.spaces;
-    rows = k.whole.rows;
-    long = k.long ∙ k.mid_long;
-    is = among.is;
-    cut = subst (λ a. Cuts new a (a + f.size) (c ∷ rest)) (sym f_at) (subst (λ m. Cuts new at (at + m) (c ∷ rest)) (sym f_size) (c_chunk, rest_is.cut));
-    some = omega arith;
-    same = stands_as;
-  }

@@ -151,8 +151,8 @@ module _ (v : View) (new : List ℕ) (s : ℕ) (x : Cell) (k : Touch v new s x) 
               let mobile : (body_at (store_of v) s).pinned ≡ 0 = sym (ap (λ t. (body_at (store_of v) t).pinned) e) ∙ y.mobile in
               let q = fits.young (omega (arith, l.lies.after, l.lies.lead, behind, e)) mobile in
               let here = ap (λ u. (with_cell (store_of v) s x).cell u) e ∙ cell_here (store_of v) s x in
-              record { start = ap is_start here ∙ q.0; mobile = ap (λ y. (body_of y).pinned) here ∙ q.1 }
-          | inr n ↦ record { start = ap is_start (cell_other (store_of v) s x c.start n) ∙ y.start; mobile = ap (λ y. (body_of y).pinned) (cell_other (store_of v) s x c.start n) ∙ y.mobile }
+              record { start = ap is_start here ∙ q.0; mobile = ap (λ y. (body_of y).pinned) here ∙ q.1; form = y.form }
+          | inr n ↦ record { start = ap is_start (cell_other (store_of v) s x c.start n) ∙ y.start; mobile = ap (λ y. (body_of y).pinned) (cell_other (store_of v) s x c.start n) ∙ y.mobile; form = y.form }
         ])
 
     -- the heap is whole

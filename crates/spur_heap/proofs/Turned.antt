@@ -24,7 +24,7 @@ use Rattle.heap_cells.proofs.Members.{In, in_either, filter_in}
 use Rattle.free_lists.specs.declared.lists.FreeLists.{FreeLists}
 use Rattle.spur_heap.specs.Words.{starts_at}
 use Rattle.spur_heap.specs.Entering.{CanTurn}
-use Rattle.spur_heap.proofs.Changing.{format-same}
+use Rattle.spur_heap.proofs.InPlace.{format-same}
 use Rattle.spur_heap.proofs.Lone.{lone_page, unheld, unspecial, unmourned}
 use Rattle.spur_heap.proofs.Orders.{order}
 use Rattle.spur_heap.proofs.Paged.{paged, alike, paged_sound, paged-final, internal-other, ordinary-other, good-other, reference-other}

@@ -35,7 +35,7 @@ use Rattle.heap_cells.proofs.References.{ordinary_there}
 use Rattle.heap_cells.proofs.Tables.{filter_members}
 use Rattle.spur_heap.specs.Views.{IsOrdinary, IsGood, node_in}
 use Rattle.spur_heap.specs.Entering.{CanTurn, TurnsIntoPage, without_node, without_spot}
-use Rattle.spur_heap.proofs.Changing.{kept, start-same, final-same}
+use Rattle.spur_heap.proofs.InPlace.{kept, start-same, final-same}
 use Rattle.spur_heap.proofs.ClassTable.{key_kept, key_past}
 use Rattle.spur_heap.proofs.Figures.{AreOnce, starts_once, node_count}
 use Rattle.spur_heap.proofs.Lone.{lone_page, led_value, unheld, unspecial, pinned_is}
@@ -169,7 +169,7 @@ module _ {v : View} {place start : ℕ} (whole : IsWhole v) (can : CanTurn v pla
 
   reached : (O : List Chunk) (t : ℕ) → is_reached new O t ≡ is_reached h O t
   unfolding is_reached
-  reached O t = λ x. list_any (λ (c : Chunk). start-same (alike k) c.start x && eqb (final-same (alike k) c.start x) t) O
+  reached O t = λ x. list_any (λ (c : Chunk). start-same (alike k).place c.start x && eqb (final-same (alike k).place c.start x) t) O
 
   names_less : (O : List Chunk) (q : ℕ) (cs : List Chunk)
       → list_any (eq_by_cmp nat_cmp q) (old_names_of new O cs) ≡ (not (eq_by_cmp nat_cmp q start) && list_any (eq_by_cmp nat_cmp q) (old_names_of h O cs))
@@ -213,7 +213,7 @@ module _ {v : View} {place start : ℕ} (whole : IsWhole v) (can : CanTurn v pla
   -- ---- internal objects
 
   inside-other : (d : Chunk) → d.start ≢ start → (is_start (new.cell d.start) && is_internal new d.start) ≡ (is_start (h.cell d.start) && is_internal h d.start)
-  inside-other d n = λ x. start-same (alike k) d.start x && internal-other k d.start n x
+  inside-other d n = λ x. start-same (alike k).place d.start x && internal-other k d.start n x
 
   abbrev its : Chunk
   its = (its_chunk whole can).chunk
@@ -221,7 +221,7 @@ module _ {v : View} {place start : ℕ} (whole : IsWhole v) (can : CanTurn v pla
   inside-here : (is_start (new.cell its.start) && is_internal new its.start) ≡ true
   inside-here =
       let is = (its_chunk whole can).start in
-      let starts : is_start (new.cell start) ≡ true = start-same (alike k) start ∙ there_starts (h.cell start) (ordinary_there h start can.there) in
+      let starts : is_start (new.cell start) ≡ true = start-same (alike k).place start ∙ there_starts (h.cell start) (ordinary_there h start can.there) in
       ap (λ t. is_start (new.cell t) && is_internal new t) is ∙ (λ x. starts x && internal-here k x)
 
   inside-was : (is_start (h.cell its.start) && is_internal h its.start) ≡ false
@@ -272,7 +272,7 @@ module _ {v : View} {place start : ℕ} (whole : IsWhole v) (can : CanTurn v pla
       let f : Chunk → ℕ = λ c. cond ((body_at h c.start).pinned == 1) 1 0 in
       let none : f its ≡ 0 = ap (λ t. cond ((body_at h t).pinned == 1) 1 0) (its_chunk whole can).start ∙ ap (λ b. cond b 1 0) (ne_eqb (body_at h start).pinned 1 (pinned_is whole can)) in
       let more : sum_by f (internal_chunks new (old_row v.words v.spaces)) ≡ sum_by f (internal_chunks h (old_row v.words v.spaces)) + f its = sum_more f (old_row v.words v.spaces) (its_chunk whole can).inside once_old in
-      (λ x. count_by (λ (c : Chunk). kept (alike k) (λ y. (body_of y).pinned) refl c.start x == 1) (internal_chunks new (old_row v.words v.spaces)))
+      (λ x. count_by (λ (c : Chunk). kept (alike k).place (λ y. (body_of y).pinned) refl c.start x == 1) (internal_chunks new (old_row v.words v.spaces)))
       ∙ (let same : sum_by f (internal_chunks new (old_row v.words v.spaces)) ≡ sum_by f (internal_chunks h (old_row v.words v.spaces)) = omega (arith, more, none) in same)
 
   -- ---- pages
@@ -307,7 +307,7 @@ module _ {v : View} {place start : ℕ} (whole : IsWhole v) (can : CanTurn v pla
       ∙ (λ x. record (heap_room v) {
         spots = spots_are O E P x;
         old_names = names_are O (O ++ (E ++ P)) x;
-        free = ascending (map (λ (c : Chunk). c.size) (filter (λ (c : Chunk). not (start-same (alike k) c.start x)) O));
+        free = ascending (map (λ (c : Chunk). c.size) (filter (λ (c : Chunk). not (start-same (alike k).place c.start x)) O));
         internal_words = words_are x;
         internal_pinned = pins_are x;
         pages = pages_are x;

@@ -1,35 +1,31 @@
 -- A word of the body of an ordinary object is written.
 use Rattle.std.proofs.Common.{◌≡◌, ℕ, true, not, ◌&&◌, ◌+◌, ◌-◌, ◌<◌, ◌≤◌, length, get_or, set, refl, sym, ap, ◌∙◌, subst, arith, inl, inr}
-use Rattle.std.proofs.lemmas.Bool.{cases_eq, cases_lt, lt-ltb, not-false}
+use Rattle.std.proofs.lemmas.Bool.{cases_eq, lt-ltb, not-false}
 use Rattle.std.proofs.lemmas.List.{length-set, get_or-set_same, get_or-set_other}
 use Rattle.spur_graph.specs.Graph.{with_node}
-use Rattle.object_header.specs.Chunks.{Chunk, slots_at}
-use Rattle.spur_graph.specs.Cells.{Body, There, Store, is_there, pointer_count, is_start}
-use Rattle.spur_graph.specs.Spaces.{old_row, eden_row, past_row}
-use Rattle.spur_graph.specs.Ordinary.{is_ordinary, is_good_word}
-use Rattle.spur_graph.specs.CellGraph.{read, node_of}
+use Rattle.object_header.specs.Chunks.{slots_at}
+use Rattle.spur_graph.specs.Cells.{Body, There, is_there, pointer_count}
+use Rattle.spur_graph.specs.Ordinary.{is_ordinary}
+use Rattle.spur_graph.specs.CellGraph.{node_of}
 use Rattle.spur_graph.specs.Heaps.{View, IsWhole, HasBits, store_of, chunks_of, heap_to, heap_value, heap_graph, heap_room, own_name, is_over, is_remembered, names_over}
-use Rattle.heap_cells.specs.Rows.{starts_of}
 use Rattle.heap_cells.specs.RowWrites.{Rewrites}
 use Rattle.heap_cells.proofs.CellKinds.{there_starts, there_is}
 use Rattle.heap_cells.proofs.Bodies.{IsLike, with_words}
 use Rattle.heap_cells.proofs.Cutting.{start-in, stands, shape}
-use Rattle.heap_cells.proofs.Members.{In, in_list, listed, start_of_chunk}
+use Rattle.heap_cells.proofs.Members.{listed}
 use Rattle.heap_cells.proofs.ObjectWrites.{body-written}
 use Rattle.heap_cells.proofs.Over.{over-written}
-use Rattle.heap_cells.proofs.References.{ordinary_there, ordinary_apart}
-use Rattle.heap_cells.proofs.Starts.{starts-rise}
+use Rattle.heap_cells.proofs.References.{ordinary_there}
 use Rattle.heap_cells.proofs.ObjectReads.{object-slots}
-use Rattle.spur_heap.specs.Words.{AreSound, body_in, is_good, starts_at}
+use Rattle.spur_heap.specs.Words.{AreSound, body_in, is_good}
 use Rattle.spur_heap.specs.Remembering.{after}
 use Rattle.spur_heap.proofs.Orders.{order}
-use Rattle.spur_heap.proofs.Hops.{start_at}
-use Rattle.spur_heap.proofs.OneCell.{with_cell}
-use Rattle.spur_heap.proofs.Touched.{Touch, Keeps, Fits, same_bit, touched_store, touched_whole, touched_graph, touched_room}
+use Rattle.spur_heap.proofs.Touched.{Touch, Fits, same_bit}
 use Rattle.spur_heap.proofs.Tables.{SameTables}
 use Rattle.spur_heap.proofs.Replaced.{replaced_whole, replaced_tables, replaced_ordinary, replaced_good, replaced_value, replaced_graph, replaced_room}
-use Rattle.spur_heap.proofs.Changing.{changed, Change, start-same, internal-same, ordinary-same, reference-same, good-same, sound_changed, mourners_kept}
-use Rattle.spur_heap.proofs.Graphs.{read-same, graph-changed, room-same}
+use Rattle.spur_heap.proofs.InPlace.{Alike}
+use Rattle.spur_heap.proofs.Swap.{fires_alike}
+use Rattle.spur_heap.proofs.Changing.{Change, change_alike, swap_of}
 
 -- a pointer slot of an ordinary object has a good word
 pub slot_good : (v : View) → AreSound v → (s : ℕ) → is_ordinary (store_of v) s ≡ true → (i : ℕ) → i < pointer_count (body_in v s) → is_good v (get_or (body_in v s).words i 0) ≡ true
@@ -132,22 +128,11 @@ module _ (v : View) (s n w : ℕ) (k : Write v s n w) where
   pub like : IsLike (body_in v s) (set (body_in v s).words n w)
   like = record { long = length-set (body_in v s).words n w; first = λ l. get_or-set_other (body_in v s).words n 0 w 0 (λ e. let some = k.literals l in omega (arith, e, some)) }
 
+  alike : Alike (store_of v) s (body_in v s) (body_then v s n w)
+  alike = record { place = record { there = there_is ((store_of v).cell s) object }; class = refl; format = refl; like = like }
+
   pub change : Change (store_of v) s (body_in v s) (body_then v s n w)
-  change = record {
-    swap = record {
-      sound = k.sound.sound;
-      alike = record {
-        there = there_is ((store_of v).cell s) object;
-        class = refl;
-        format = refl;
-        like = like;
-      };
-      roots = λ e. (ordinary_apart (store_of v) s k.ordinary).0 (sym e);
-      slots = λ on. good_slot;
-    };
-    ordinary = k.ordinary;
-    hash = inl refl;
-  }
+  change = change_alike k.sound.sound alike k.ordinary (inl refl) good_slot
 
   touch : Touch v (then v s n w).words s (There (body_then v s n w))
   touch = slot_touch v s n w slot
@@ -156,7 +141,8 @@ module _ (v : View) (s n w : ℕ) (k : Write v s n w) where
   HasBitFor = BitFor v s n w
 
   pub whole_written : HasBitFor → IsWhole v → IsWhole (then v s n w)
-  whole_written remembered_at whole = replaced_whole v s (then v s n w).words (body_then v s n w) touch change (slot_fits v s n w slot like remembered_at whole) whole
+  whole_written remembered_at whole =
+      replaced_whole v s (then v s n w).words (body_then v s n w) touch change (slot_fits v s n w slot like remembered_at whole) (fires_alike (swap_of change) refl v.mourners whole.mourners) whole
 
   -- ---- what is the same
 
@@ -176,4 +162,4 @@ module _ (v : View) (s n w : ℕ) (k : Write v s n w) where
   graph_written = replaced_graph v s (then v s n w).words (body_then v s n w) touch change
 
   pub room_kept : heap_room (then v s n w) ≡ heap_room v
-  room_kept = replaced_room v s (then v s n w).words (body_then v s n w) touch change refl
+  room_kept = replaced_room v s (then v s n w).words (body_then v s n w) touch change

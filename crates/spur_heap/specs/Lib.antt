@@ -9,3 +9,11 @@ pub mod Lending
 pub mod Fresh
 pub mod Allocating
 pub mod Entering
+pub mod Outside
+pub mod Forwarders
+pub mod Flags
+pub mod Exchanging
+pub mod Pairing
+pub mod Swaps
+pub mod Contents
+pub mod Heading

@@ -9,6 +9,12 @@ use crate::heap::Heap;
 use crate::making::{fill_word, fresh_words, put_object};
 use spur_graph::Full;
 
+/// The class index of an object that is made to be filled, that of arrays.
+pub const BLANK_CLASS: u32 = 16;
+
+/// The format of an object that is made to be filled: its slots are 64-bit units, each 0, so that it names nothing.
+pub const BLANK_FORMAT: u8 = 9;
+
 /// Where words are asked for.
 #[derive(Clone, Copy)]
 pub enum Space {

@@ -59,6 +59,8 @@ pub struct HeapParts {
     pub limits: Limits,
     /// Whether objects may be marked.
     pub phase: Phase,
+    /// Whether an object has become a forwarder since the heap was made. No contract sees it.
+    pub forwarders: bool,
 }
 
 /// Whether headers may have their mark bits.
@@ -126,6 +128,7 @@ impl Heap {
             carried,
             limits,
             phase: Phase::Whole,
+            forwarders: false,
         };
         make_tables(&mut parts);
         Heap { parts }

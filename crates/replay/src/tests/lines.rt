@@ -21,7 +21,7 @@ fn a_line_of_no_command_is_refused(rt: HostRuntime) -> Result<(), Fail> {
             ("@ stat", "! syntax"),
             ("save a.image", "! unsupported"),
             ("@7 gc", "! unsupported"),
-            ("pin a", "! unsupported"),
+            ("mourn a", "! unsupported"),
             ("kind q", "! unknown"),
         ],
     )

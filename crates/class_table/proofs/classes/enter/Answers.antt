@@ -1,7 +1,9 @@
 use Rattle.std.proofs.Common.{◌∙◌, sym, Some, None}
 use Rattle.spur_graph.specs.Heaps.{heap_value}
 use Rattle.spur_heap.specs.Views.{node_in}
-use Rattle.class_table.proofs.Entering.{handed_on, refused_hashed, refused_table, refused_full, can_enter, graph_entered}
+use Rattle.spur_graph.proofs.Refusing.{handed_on}
+use Rattle.class_table.proofs.Entering.{refused_hashed, refused_table, refused_full, can_enter, graph_entered}
+use Rattle.class_table.proofs.Hashing.{unentered_as}
 use Rattle.class_table.proofs.classes.enter.Goals as goal
 
 pub returns-then-hash-ne0-clause-refusal : goal.returns-then-hash-ne0-clause-refusal
@@ -26,6 +28,17 @@ returns-in_err-place_for-clause-refusal c =
     refused_full v start.start (heap_value v c.args.object) start.ensures.there start.ensures.value start.ensures.refusal (sym c.is_special.ensures ∙ c.if-is_special.false)
     (sym (c.hash.ensures.value ∙ c.header.ensures.hash) ∙ c.if-hash-ne0.false) index.index index.ensures.some.0 index.ensures.some.2 (Some c.in_err-place_for.field-0.0) c.in_err-place_for.ensures.refusal
     ∙ handed_on _ c.in_err-place_for.field-0.0 c.from_residual-in_err-place_for.ensures.1
+
+pub put_hash-requires : goal.put_hash-requires
+put_hash-requires c =
+    let v = c.args.heap.now in
+    let start = c.in_ok-start in
+    let place = c.in_ok-place_for.ensures.place in
+    record {
+      there = place.ordinary start.start start.ensures.there;
+      unentered = unentered_as v c.place_for.new.heap start.start start.ensures.there (sym (c.hash.ensures.value ∙ c.header.ensures.hash) ∙ c.if-hash-ne0.false) place.graph;
+      fits = c.in-Some.ensures.some.2;
+    }
 
 pub put_entry-requires : goal.put_entry-requires
 put_entry-requires c =

@@ -1,7 +1,7 @@
 use Rattle.std.proofs.Common.{ap, ◌≡◌, ◌∙◌, arith}
 use Rattle.spur_graph.specs.Ordinary.{is_no_index}
 use Rattle.spur_heap.specs.Views.{node_in}
-use Rattle.class_table.proofs.Entered.{hash_known}
+use Rattle.spur_heap.proofs.ClassTold.{hash_known}
 use Rattle.class_table.proofs.classes.index_of.Goals as goal
 
 pub returns-clause-known : goal.returns-clause-known

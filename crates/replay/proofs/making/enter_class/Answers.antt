@@ -1,6 +1,6 @@
 use Rattle.std.proofs.Common.{◌∙◌}
 use Rattle.replay.specs.Sessions.{over, value_in}
-use Rattle.replay.proofs.Rows.{handed_on}
+use Rattle.spur_graph.proofs.Refusing.{handed_on}
 use Rattle.replay.proofs.Made.{class_row, enters_refused, enter_obeys}
 use Rattle.replay.proofs.making.enter_class.Goals as goal
 

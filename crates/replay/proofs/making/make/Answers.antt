@@ -1,7 +1,7 @@
 use Rattle.std.proofs.Common.{◌∙◌}
 use Rattle.spur_heap.specs.Allocating.{source_of}
 use Rattle.replay.specs.Sessions.{over, value_in}
-use Rattle.replay.proofs.Rows.{handed_on}
+use Rattle.spur_graph.proofs.Refusing.{handed_on}
 use Rattle.replay.proofs.Made.{some_room, instances_refused, same_handles, made_obeys}
 use Rattle.replay.proofs.making.make.Goals as goal
 

@@ -1,0 +1,12 @@
+pub mod RowReads
+pub mod Chunked
+pub mod Led
+pub mod Handed
+pub mod NodesThen
+pub mod Forwarded
+pub mod Tables
+pub mod Pieces
+pub mod Copies
+pub mod Moved
+pub mod CrossedOver
+pub mod Places

@@ -1,0 +1,6 @@
+pub mod Naming
+pub mod SlotCounts
+pub mod Young
+pub mod Copying
+pub mod Forwarding
+pub mod Pinned
