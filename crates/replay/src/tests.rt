@@ -1,5 +1,7 @@
 use crate::{Session, Status, run};
+use arrayvec::ArrayVec;
 use drill_files::write_base_image;
+use script_text::write_answer;
 use spur_io::{CallKind, Files, MemoryFiles, MemorySink, read_full};
 use std::alloc::Global;
 use std::process::Abort;
@@ -16,6 +18,7 @@ mod kept;
 mod lines;
 mod making;
 mod options;
+mod saving;
 mod sessions;
 mod slots;
 mod units;
@@ -113,6 +116,26 @@ pub(crate) fn check_rows(
     files.begin("a.script")?;
     files.append("a.script", script.as_bytes())?;
     check(rt, alloc, files, Status::Done, answers.as_str())
+}
+
+/// Asserts that a session answers each of these lines by the text beside it.
+pub(crate) fn check_lines(
+    rt: &impl Abort,
+    session: &mut Session,
+    files: &mut MemoryFiles,
+    lines: &[(&str, &str)],
+) -> Result<(), Fail> {
+    'lines: for (line, want) in lines.iter() {
+        let answered = session.line(files, line.as_bytes());
+        assert!(rt; answered.is_ok());
+        if let Ok(answer) = answered {
+            let mut text: ArrayVec<u8, 256> = ArrayVec::new();
+            write_answer(&answer, &mut text);
+            let _line_feed = text.pop();
+            assert_eq!(rt; text.as_slice(), want.as_bytes());
+        }
+    }
+    Ok(())
 }
 
 #[test]

@@ -48,4 +48,7 @@ mod units;
 
 pub use allocation::{BLANK_CLASS, BLANK_FORMAT, Space};
 pub use bare::Bare;
+pub use chains::follow_start;
 pub use heap::{Heap, HeapParts, Phase};
+pub use places::first_start;
+pub use slots::pointer_count_of;

@@ -1,2 +1,5 @@
 pub mod Places
 pub mod FullReads
+pub mod Changes
+pub mod Fronts
+pub mod WordBytes

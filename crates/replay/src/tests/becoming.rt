@@ -1,10 +1,8 @@
 ghost use Rattle.std.specs.Prelude.{◌≤◌};
 ghost use Rattle.image_load.specs.Loaded.{AreLimits};
 
-use super::{patch, run_words, store};
+use super::{check_lines, patch, run_words, store};
 use crate::{Session, Status};
-use arrayvec::ArrayVec;
-use script_text::write_answer;
 use spur_graph::Limits;
 use spur_io::{Files, MemoryFiles, MemorySink};
 use std::alloc::Global;
@@ -37,26 +35,6 @@ fn new_space(room: usize) -> Limits
         room,
         saved: 8,
     }
-}
-
-/// Asserts that a session answers each of these lines by the text beside it.
-fn check_lines(
-    rt: &impl Abort,
-    session: &mut Session,
-    files: &mut MemoryFiles,
-    lines: &[(&str, &str)],
-) -> Result<(), Fail> {
-    'lines: for (line, want) in lines.iter() {
-        let answered = session.line(files, line.as_bytes());
-        assert!(rt; answered.is_ok());
-        if let Ok(answer) = answered {
-            let mut text: ArrayVec<u8, 256> = ArrayVec::new();
-            write_answer(&answer, &mut text);
-            let _line_feed = text.pop();
-            assert_eq!(rt; text.as_slice(), want.as_bytes());
-        }
-    }
-    Ok(())
 }
 
 /// Asserts that a session on the base image of these files answers each of these lines by the text beside it.

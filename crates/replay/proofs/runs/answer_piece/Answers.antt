@@ -1,5 +1,5 @@
 use Rattle.std.proofs.Common.{refl, rules}
-use Rattle.drill_files.proofs.Stores.{on_err}
+use Rattle.spur_io.proofs.Changes.{on_err}
 use Rattle.replay.proofs.Steps.{same_run, runs_on}
 use Rattle.replay.proofs.Answering.{none_passed, line_passed, all_passed, part_passed}
 use Rattle.replay.proofs.runs.answer_piece.Goals as goal

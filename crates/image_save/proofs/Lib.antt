@@ -1,0 +1,10 @@
+pub mod Pieces
+pub mod Trims
+pub mod Over
+pub mod Placing
+pub mod Parts
+pub mod Ready
+pub mod Looks
+pub mod Walk
+pub mod Values
+pub mod Fits

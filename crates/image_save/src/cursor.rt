@@ -1,0 +1,85 @@
+// A walk over the chunks that are saved, word by word. Each chunk is looked at once, when the walk comes to its first word.
+ghost use Rattle.std.specs.Prelude.{◌≡◌, ◌<◌, ◌≤◌, ◌+◌, length, nat_eq, ◌||◌};
+ghost use Rattle.object_header.specs.Head.{class_of};
+ghost use Rattle.spur_graph.specs.Heaps.{IsWhole};
+ghost use Rattle.spur_heap.specs.Parts.{view_of};
+ghost use Rattle.image_save.specs.Saved.{region_place, file_words};
+ghost use Rattle.image_save.specs.Places.{ArePlaces, Begins, IsAt, IsReady};
+
+use crate::places::Places;
+use heap_walk::span_of;
+use object_header::{FORWARDER_CLASS, FREE_CLASS, Header};
+use spur_heap::{HeapParts, pointer_count_of};
+
+/// The chunk whose words are written, by places in the region.
+#[derive(Clone, Copy)]
+pub(crate) struct Cursor {
+    /// Where its header stands. A word before it is an overflow word.
+    pub start: usize,
+    /// Where its last word ends.
+    pub end: usize,
+    /// Whether the words behind the header are written as 0.
+    pub blank: bool,
+    /// If not, how many of them are pointer slots. These are the first.
+    pub values: usize,
+}
+
+/// The cursor before all chunks.
+pub(crate) fn before() -> Cursor
+    ensures { result.end ≡ 0 }
+{
+    Cursor {
+        start: 0,
+        end: 0,
+        blank: true,
+        values: 0,
+    }
+}
+
+/// Whether the words behind this header, at `start`, are written as 0: those of a free chunk, of a forwarder and of the free lists object, which starts at
+/// `lists`. Who loads the file builds lists of its own.
+fn is_blank(header: u64, start: usize, lists: usize) -> bool
+    ensures { result ≡ (nat_eq (class_of header) FREE_CLASS || nat_eq (class_of header) FORWARDER_CLASS || nat_eq start lists) }
+{
+    let class = Header(header).class();
+    class == FREE_CLASS || class == FORWARDER_CLASS || start == lists
+}
+
+/// The cursor at the chunk that begins at the word `at`.
+pub(crate) fn look(parts: &HeapParts, places: &Places, at: usize) -> Cursor
+    requires whole { IsWhole (view_of parts.now) }
+    requires places { ArePlaces (view_of parts.now) places.now }
+    requires begins { Begins (view_of parts.now) at }
+    ensures { IsAt (view_of parts.now) at result }
+{
+    let span = span_of(at, parts.region.get(at));
+    if is_blank(parts.region.get(span.start), span.start, places.lists) {
+        return Cursor {
+            start: span.start,
+            end: span.end,
+            blank: true,
+            values: 0,
+        };
+    }
+    Cursor {
+        start: span.start,
+        end: span.end,
+        blank: false,
+        values: pointer_count_of(parts, span.start),
+    }
+}
+
+/// Brings the cursor to the chunk of the word `at` of the region, which is word `i` of the file.
+pub(crate) fn advance(parts: &HeapParts, places: &Places, cursor: &mut Cursor, i: usize, at: usize)
+    requires whole { IsWhole (view_of parts.now) }
+    requires places { ArePlaces (view_of parts.now) places.now }
+    requires inside { i < file_words (view_of parts.now) }
+    requires place { at ≡ region_place (view_of parts.now) i }
+    requires ready { IsReady (view_of parts.now) i cursor.old }
+    ensures at { IsAt (view_of parts.now) at cursor.new }
+    ensures ready { IsReady (view_of parts.now) (i + 1) cursor.new }
+{
+    if at >= cursor.end {
+        *cursor = look(parts, places, at);
+    }
+}
