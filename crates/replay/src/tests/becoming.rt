@@ -3,7 +3,7 @@ ghost use Rattle.image_load.specs.Loaded.{AreLimits};
 
 use super::{check_lines, patch, run_words, store};
 use crate::{Session, Status};
-use spur_graph::Limits;
+use spur_graph::{HandleName, Limits};
 use spur_io::{Files, MemoryFiles, MemorySink};
 use std::alloc::Global;
 use std::process::Abort;
@@ -590,6 +590,54 @@ fn a_young_object_is_copied_to_be_pinned(rt: HostRuntime) -> Result<(), Fail> {
             ("pin s", "ok"),
         ],
     )
+}
+
+/// Asserts that the word of a handle names no forwarder.
+fn check_settled(rt: &impl Abort, session: &Session, name: &str) -> Result<(), Fail> {
+    let read = HandleName::from(name);
+    assert!(rt; read.is_ok());
+    if let Ok(name) = read {
+        let held = session.heap().handle(0, &name);
+        assert!(rt; held.is_some());
+        if let Some(word) = held {
+            assert_eq!(rt; session.heap().follow(word), word);
+        }
+    }
+    Ok(())
+}
+
+#[test]
+fn a_handle_that_is_read_is_rewritten(rt: HostRuntime) -> Result<(), Fail> {
+    let mut files = store(rt.alloc(), "")?;
+    let started = Session::start(
+        rt.alloc(),
+        &mut files,
+        "base.image",
+        "a.script",
+        old_space(1_000),
+    );
+    assert!(rt; started.is_ok());
+    if let Ok(mut session) = started {
+        check_lines(
+            &rt,
+            &mut session,
+            &mut files,
+            &[
+                ("special s", "ok"),
+                ("fetch c s 3", "ok"),
+                ("newold a c 1", "ok"),
+                ("newold b c 2", "ok"),
+                ("become a b", "ok"),
+                ("become a b", "ok"),
+                ("become a b", "ok"),
+                ("size a", "2 0"),
+                ("kind b", "object 51 2"),
+            ],
+        )?;
+        check_settled(&rt, &session, "a")?;
+        check_settled(&rt, &session, "b")?;
+    }
+    Ok(())
 }
 
 /// The words of the region from an index on.
