@@ -93,6 +93,25 @@ def load_images(program, folder, runs):
         os.remove(image)
 
 
+def save_images(program, folder, runs):
+    """Loads an image of many small objects, and loads and saves it."""
+    for label, count, slots, stride in [
+        ("3-slot objects, near references", 8_000_000, 3, 1),
+        ("3-slot objects, references all over", 8_000_000, 3, 1_000_003),
+    ]:
+        image = os.path.join(folder, "some.image")
+        writer = multiprocessing.Process(target=write_objects, args=(image, count, slots, stride))
+        writer.start()
+        writer.join()
+        size = os.path.getsize(image) / MIB
+        with open(os.path.join(folder, "save.script"), "w") as file:
+            file.write("save copy.image\n")
+        for what, script, floor in [("load", "no.script", ["cat", "some.image"]), ("load, save", "save.script", ["cp", "some.image", "copy.image"])]:
+            words = [program, "replay", "some.image", script, "--room", "0"]
+            measure(f"{what} {label}, {size:.0f} MiB", words, floor, size, "MiB", folder, runs)
+        os.remove(image)
+
+
 def run_lines(program, folder, runs, count=1_000_000):
     """Answers lines over the base image."""
     front = ["special s", "fetch c s 3", "fetch p s 7"]
@@ -158,7 +177,7 @@ def exchange_objects(program, folder, runs):
 def main():
     parser = argparse.ArgumentParser(description=__doc__.splitlines()[0])
     parser.add_argument("--runs", type=int, default=5)
-    parser.add_argument("--only", default="", help="load, lines, making, becoming")
+    parser.add_argument("--only", default="", help="load, save, lines, making, becoming")
     parser.add_argument("--program", default=os.path.join(TOP, "spur"))
     given = parser.parse_args()
     program = os.path.abspath(given.program)
@@ -169,6 +188,8 @@ def main():
         spend([program, "replay", "base.image", "no.script"], folder)  # builds the program where it is not built
         if not only or "load" in only:
             load_images(program, folder, given.runs)
+        if not only or "save" in only:
+            save_images(program, folder, given.runs)
         if not only or "lines" in only:
             run_lines(program, folder, given.runs)
         if not only or "making" in only:

@@ -67,6 +67,16 @@ class Edge:
         print(f"{name}: status {ended.returncode}, wanted {status}; {len(got or b'')} bytes, wanted {len(stdout)}")
         print(f"    begins {(got or b'')[:80]!r}, standard error {ended.stderr[:200]!r}")
 
+    def holds(self, name, path, wanted):
+        """A file has these bytes."""
+        with open(self.path(path), "rb") as file:
+            got = file.read()
+        if got == wanted:
+            self.passed += 1
+            return
+        self.failed += 1
+        print(f"{name}: {len(got)} bytes, wanted {len(wanted)}, the first other one is {next((i for i, (a, b) in enumerate(zip(got, wanted)) if a != b), 'none')}")
+
     def wants(self, name, status, stdout, *words):
         """A run with these words ends with this status, has put these bytes, and said nothing on standard error."""
         self.judge(name, status, stdout, self.run(*words))
@@ -161,6 +171,38 @@ def try_slow_pipe(edge):
     filler.join(timeout=5)
 
 
+def try_saves(edge):
+    """Saves into files: as it was loaded, over an older file, twice over a load, onto a device that is full, and where there is a folder."""
+    base = image(heap_words())
+    edge.put("save.script", b"save copy.image\nsave save.script\n")
+    edge.put("copy.image", base * 2)
+    edge.wants("a save, and one over the script", 0, b"ok\n! name\n", "replay", "base.image", "save.script")
+    edge.holds("the base image is saved as it was", "copy.image", base)
+
+    lines = [
+        "special s", "fetch c s 3", "newold a c 1", "newold b c 300", "newold d c 0", "hash a", "become a b", "forward d a hash",
+        "store s 0 a", "store s 1 b", "store b 0 s", "save first.image",
+    ]
+    edge.put("change.script", "\n".join(lines).encode())
+    wanted = b"ok\n" * 5 + b"991766\n" + b"ok\n" * 6
+    edge.wants("a save behind exchanges", 0, wanted, "replay", "base.image", "change.script")
+    edge.put("again.script", b"special s\nfetch a s 0\nsize a\nhash a\nfetch b s 1\nfetch t b 0\nsame s t\nsave second.image\n")
+    wanted = b"ok\nok\n300 0\n991766\nok\nok\ntrue\nok\n"
+    edge.wants("what was saved, loaded", 0, wanted, "replay", "first.image", "again.script")
+    with open(edge.path("first.image"), "rb") as first:
+        edge.holds("what was saved, saved again", "second.image", first.read())
+    edge.put("large.saves", b"save large.copy\n")
+    edge.wants("a save of several MiB", 0, b"ok\n", "replay", "large.image", "large.saves")
+    with open(edge.path("large.image"), "rb") as large:
+        edge.holds("an image of several MiB is saved as it was", "large.copy", large.read())
+
+    os.symlink("/dev/full", edge.path("full"))
+    edge.put("full.script", b"special s\nkind s\nsave full\nkind s\n")
+    edge.wants("a save onto a device that is full", 5, b"ok\nobject 51 2\n", "replay", "base.image", "full.script")
+    edge.put("folder.script", b"special s\nkind s\nsave folder\nkind s\n")
+    edge.wants("a save where there is a folder", 5, b"ok\nobject 51 2\n", "replay", "base.image", "folder.script")
+
+
 def try_long_script(edge):
     """A script of more than 2^32 bytes: a file with a hole, so that it takes no room."""
     with open(edge.path("huge.script"), "wb") as file:
@@ -186,7 +228,7 @@ def main():
         edge.put("large.image", large_image())
         # builds it where it is not built
         subprocess.run([program], stdout=subprocess.DEVNULL, stderr=subprocess.DEVNULL)
-        for tries in (try_words, try_files, try_refusals, try_output, try_lines, try_slow_pipe, try_long_script):
+        for tries in (try_words, try_files, try_refusals, try_output, try_lines, try_slow_pipe, try_saves, try_long_script):
             tries(edge)
     print(f"{edge.passed} passed, {edge.failed} failed")
     raise SystemExit(1 if edge.failed else 0)

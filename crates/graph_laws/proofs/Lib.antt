@@ -14,8 +14,10 @@ pub mod Redirected
 pub mod Alikes
 pub mod BecomeOutcomes
 pub mod NamedOutcomes
-pub mod Outcomes
 pub mod Joining
+pub mod Denoted
+pub mod Saving
+pub mod Outcomes
 pub mod Runs
 pub mod Agreeing
 pub mod CopyingOut

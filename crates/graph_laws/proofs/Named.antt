@@ -19,7 +19,7 @@ use Rattle.spur_graph.specs.Graph.{Graph, Handle, handle_cmp, with_node, held, w
 use Rattle.spur_graph.specs.Handles.{handles_total}
 use Rattle.spur_graph.specs.Bytes.{Text}
 use Rattle.spur_graph.specs.Room.{Room, Spot, placed, is_old}
-use Rattle.spur_graph.specs.State.{State, value_at, name_at, with_graph, with_fresh, bound, dropped}
+use Rattle.spur_graph.specs.State.{Files, State, value_at, name_at, with_graph, with_fresh, bound, dropped}
 use Rattle.graph_laws.specs.FixedNames.{HasAllNames}
 
 -- whatever a state speaks of has a node, and no name from the next one on has one
@@ -202,6 +202,22 @@ module _ {s : State} (k : IsNamed s) where
   -- the hash state is no name
   pub state-named : (state : ℕ) → IsNamed (with_graph s (record s.graph { hash_state = state }))
   state-named state = record {
+    fresh = k.fresh;
+    pointers = k.pointers;
+    nil = k.nil;
+    no = k.no;
+    yes = k.yes;
+    special = k.special;
+    classes = k.classes;
+    handles = k.handles;
+    mourners = k.mourners;
+    spots = k.spots;
+    old_names = k.old_names;
+  }
+
+  -- nor is a file
+  pub files-named : (files : Files) → IsNamed (record s { files = files })
+  files-named files = record {
     fresh = k.fresh;
     pointers = k.pointers;
     nil = k.nil;

@@ -44,6 +44,7 @@ use Rattle.graph_laws.proofs.Changes.{bound-renamed, dropped-renamed, changed-re
 use Rattle.graph_laws.proofs.Fresh.{fresh-iso, fresh-room}
 use Rattle.graph_laws.proofs.Counts.{len-renamed, waiting-renamed}
 use Rattle.graph_laws.proofs.Rooms.{with_places, served_with, serve-same, served-keeps, entered-same, entered-keeps}
+use Rattle.graph_laws.proofs.Saving.{chooses-alike}
 use Rattle.graph_laws.proofs.Named.{IsNamed, all_named}
 
 -- a value in each place
@@ -259,7 +260,7 @@ had (Some o) (Some u) answer new a is = (o.1, (is.0 ∙ a.0, refl), subst (λ x.
 
 module _ {s t : State} (named : IsNamed s) (k : Renamed s t) (m : ℕ) (form : Form) where
   refused-alike : refused s m form ≡ refused t m form
-  refused-alike = sym (refused-renamed s t k.p k.back k.graph k.room m form)
+  refused-alike = sym (refused-renamed s t k.p k.back k.graph k.room k.script m form)
 
   refuses-alike : (why : Refusal) → Refuses t m form why → Refuses s m form why
   refuses-alike why (inl row) = inl (refused-alike ∙ row)
@@ -272,7 +273,9 @@ module _ {s t : State} (named : IsNamed s) (k : Renamed s t) (m : ℕ) (form : F
   does-alike answer new passes (inl is) =
       let found = had (outcome s m form) (outcome t m form) answer new (alike named k m form (passes-alike passes).0 passes.0) is in
       (found.0, inl found.1, found.2, stays_named named m form answer found.0 (passes-alike passes).0 found.1)
-  does-alike answer new passes (inr chooses) = absurd chooses
+  does-alike answer new passes (inr chooses) =
+      let found = chooses-alike named k m form answer new chooses in
+      (found.0, inr found.1, found.2, found.3)
 
 -- the same line has the same answer, and leads to a state that speaks of names that have nodes too
 pub answered_alike : (s t new : State) (text : Text) (answer : Answer) → IsNamed s → Renamed s t → Answers t text answer new → (end : State) × Answers s text answer end × Renamed end new × IsNamed end

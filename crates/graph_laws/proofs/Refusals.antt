@@ -6,14 +6,14 @@ use Rattle.spur_graph.specs.declared.answer.Refusal.TheVariants as r
 use Rattle.spur_graph.specs.Node.{Node}
 use Rattle.spur_graph.specs.Names.{Iso, rename, rename_node}
 use Rattle.spur_graph.specs.Bytes.{Text}
-use Rattle.spur_graph.specs.Form.{Form, Special, Nil, Yes, No, Int, Char, Float, Copy, Drop, Kind, Class, Size, Fetch, Store, Unit, SetUnit, Same, New, NewOld, Enter, Hash, Become, Forward, Pin, Unpin, ReadOnly, Writable, Stat}
+use Rattle.spur_graph.specs.Form.{Form, Special, Nil, Yes, No, Int, Char, Float, Copy, Drop, Kind, Class, Size, Fetch, Store, Unit, SetUnit, Same, New, NewOld, Enter, Hash, Become, Forward, Pin, Unpin, ReadOnly, Writable, Save, Stat}
 use Rattle.spur_graph.specs.Step.{SameRoom}
 use Rattle.spur_graph.specs.Room.{fresh_words}
 use Rattle.spur_graph.specs.Serve.{Source, Anywhere, OldAlone}
 use Rattle.spur_graph.specs.Instances.{layout_in, has_instances, is_size, slots_for}
 use Rattle.spur_graph.specs.Hashes.{free_index}
 use Rattle.spur_graph.specs.State.{State, name_at, node_of_handle}
-use Rattle.spur_graph.specs.Refusals.{first, test, raw_read, raw_write, raw_unit, index_in, unit_range, int_range, char_range, float_range, unserved, is_special, has_hash, no_page}
+use Rattle.spur_graph.specs.Refusals.{first, test, raw_read, raw_write, raw_unit, index_in, unit_range, int_range, char_range, float_range, unserved, is_special, has_hash, no_page, is_script}
 use Rattle.spur_graph.specs.Refused.{instance_row, row, refused}
 use Rattle.spur_graph.specs.Ordinary.{class_limit}
 use Rattle.graph_laws.proofs.Values.{name_at-renamed, node_of_handle-renamed, layout_in-renamed, has_instances-renamed, is_special-renamed, free_index-renamed}
@@ -57,38 +57,39 @@ module _ (s t : State) {p back : ℕ → ℕ} (k : Iso s.graph t.graph p back) (
       ∷ [])))
 
 -- the refusal of each command
-pub refused-renamed : (s t : State) (p back : ℕ → ℕ) → Iso s.graph t.graph p back → SameRoom s.room t.room p → (m : ℕ) (form : Form) → refused t m form ≡ refused s m form
-refused-renamed s t p back k room m (Special h) = bindable k m h [] _ _ refl
-refused-renamed s t p back k room m (Nil h) = bindable k m h [] _ _ refl
-refused-renamed s t p back k room m (Yes h) = bindable k m h [] _ _ refl
-refused-renamed s t p back k room m (No h) = bindable k m h [] _ _ refl
-refused-renamed s t p back k room m (Int h n) = bindable k m h [] (int_range n ∷ []) (int_range n ∷ []) refl
-refused-renamed s t p back k room m (Char h n) = bindable k m h [] (char_range n ∷ []) (char_range n ∷ []) refl
-refused-renamed s t p back k room m (Float h w) = bindable k m h [] (float_range w ∷ []) (float_range w ∷ []) refl
-refused-renamed s t p back k room m (Copy h o) = bindable k m h (o ∷ []) [] [] refl
-refused-renamed s t p back k room m (Drop h) = known k m (h ∷ []) [] [] refl
-refused-renamed s t p back k room m (Kind o) = known k m (o ∷ []) [] [] refl
-refused-renamed s t p back k room m (Class h o) = bindable k m h (o ∷ []) [] [] refl
-refused-renamed s t p back k room m (Size o) = known k m (o ∷ []) _ _ (object k m o [] [] (λ _. refl))
-refused-renamed s t p back k room m (Fetch h o i) =
+pub refused-renamed : (s t : State) (p back : ℕ → ℕ) → Iso s.graph t.graph p back → SameRoom s.room t.room p → t.script ≡ s.script → (m : ℕ) (form : Form) → refused t m form ≡ refused s m form
+refused-renamed s t p back k room script m (Special h) = bindable k m h [] _ _ refl
+refused-renamed s t p back k room script m (Nil h) = bindable k m h [] _ _ refl
+refused-renamed s t p back k room script m (Yes h) = bindable k m h [] _ _ refl
+refused-renamed s t p back k room script m (No h) = bindable k m h [] _ _ refl
+refused-renamed s t p back k room script m (Int h n) = bindable k m h [] (int_range n ∷ []) (int_range n ∷ []) refl
+refused-renamed s t p back k room script m (Char h n) = bindable k m h [] (char_range n ∷ []) (char_range n ∷ []) refl
+refused-renamed s t p back k room script m (Float h w) = bindable k m h [] (float_range w ∷ []) (float_range w ∷ []) refl
+refused-renamed s t p back k room script m (Copy h o) = bindable k m h (o ∷ []) [] [] refl
+refused-renamed s t p back k room script m (Drop h) = known k m (h ∷ []) [] [] refl
+refused-renamed s t p back k room script m (Kind o) = known k m (o ∷ []) [] [] refl
+refused-renamed s t p back k room script m (Class h o) = bindable k m h (o ∷ []) [] [] refl
+refused-renamed s t p back k room script m (Size o) = known k m (o ∷ []) _ _ (object k m o [] [] (λ _. refl))
+refused-renamed s t p back k room script m (Fetch h o i) =
     bindable k m h (o ∷ []) _ _ (object k m o _ _ (λ e. ap (λ n. first (raw_read n ∷ index_in n.pointers i ∷ [])) e ∙ fetch_row p (node_of_handle s.graph m o) i))
-refused-renamed s t p back k room m (Store o i v) =
+refused-renamed s t p back k room script m (Store o i v) =
     known k m (o ∷ v ∷ []) _ _ (object k m o _ _ (λ e.
     ap (λ n. first (raw_write n i ∷ index_in n.pointers i ∷ guard n ∷ [])) e ∙ store_row p (node_of_handle s.graph m o) i))
-refused-renamed s t p back k room m (Unit o i) =
+refused-renamed s t p back k room script m (Unit o i) =
     known k m (o ∷ []) _ _ (object k m o _ _ (λ e. ap (λ n. first (raw_unit n ∷ index_in n.units i ∷ [])) e))
-refused-renamed s t p back k room m (SetUnit o i u) =
+refused-renamed s t p back k room script m (SetUnit o i u) =
     known k m (o ∷ []) _ _ (object k m o _ _ (λ e. ap (λ n. first (raw_unit n ∷ index_in n.units i ∷ unit_range n u ∷ guard n ∷ [])) e))
-refused-renamed s t p back k room m (Same a b) = known k m (a ∷ b ∷ []) [] [] refl
-refused-renamed s t p back k room m (New h c n) = bindable k m h (c ∷ []) _ _ (instance_row-renamed s t k room m c n Anywhere)
-refused-renamed s t p back k room m (NewOld h c n) = bindable k m h (c ∷ []) _ _ (instance_row-renamed s t k room m c n OldAlone)
-refused-renamed s t p back k room m (Enter c) = enter_row-renamed s t k room m c
-refused-renamed s t p back k room m (Hash o) = known k m (o ∷ []) _ _ (bare_object k m o [] [] (λ _. refl))
-refused-renamed s t p back k room m (Become a b) = become_row s t k room m a b
-refused-renamed s t p back k room m (Forward a b hash) = forward_row s t k room m a b hash
-refused-renamed s t p back k room m (Pin o) = pin_row s t k room m o
-refused-renamed s t p back k room m (Unpin o) = known k m (o ∷ []) _ _ (bare_object k m o [] [] (λ _. refl))
-refused-renamed s t p back k room m (ReadOnly o) = known k m (o ∷ []) _ _ (bare_object k m o [] [] (λ _. refl))
-refused-renamed s t p back k room m (Writable o) = known k m (o ∷ []) _ _ (bare_object k m o [] [] (λ _. refl))
-refused-renamed s t p back k room m Stat = refl
-refused-renamed s t p back k room m form = refl
+refused-renamed s t p back k room script m (Same a b) = known k m (a ∷ b ∷ []) [] [] refl
+refused-renamed s t p back k room script m (New h c n) = bindable k m h (c ∷ []) _ _ (instance_row-renamed s t k room m c n Anywhere)
+refused-renamed s t p back k room script m (NewOld h c n) = bindable k m h (c ∷ []) _ _ (instance_row-renamed s t k room m c n OldAlone)
+refused-renamed s t p back k room script m (Enter c) = enter_row-renamed s t k room m c
+refused-renamed s t p back k room script m (Hash o) = known k m (o ∷ []) _ _ (bare_object k m o [] [] (λ _. refl))
+refused-renamed s t p back k room script m (Become a b) = become_row s t k room m a b
+refused-renamed s t p back k room script m (Forward a b hash) = forward_row s t k room m a b hash
+refused-renamed s t p back k room script m (Pin o) = pin_row s t k room m o
+refused-renamed s t p back k room script m (Unpin o) = known k m (o ∷ []) _ _ (bare_object k m o [] [] (λ _. refl))
+refused-renamed s t p back k room script m (ReadOnly o) = known k m (o ∷ []) _ _ (bare_object k m o [] [] (λ _. refl))
+refused-renamed s t p back k room script m (Writable o) = known k m (o ∷ []) _ _ (bare_object k m o [] [] (λ _. refl))
+refused-renamed s t p back k room script m (Save name) = ap (λ x. first (is_script x name ∷ [])) script
+refused-renamed s t p back k room script m Stat = refl
+refused-renamed s t p back k room script m form = refl

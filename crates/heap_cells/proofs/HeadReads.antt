@@ -29,7 +29,7 @@ formed-from class f n first c3 res lit en = elim (cases_Bool (is_method f)) [
   | inr m ↦ rw (c3, res, m, en) refl
 ]
 
-no_literals : (f n l m : ℕ) → is_method f ≡ false → pointer_slots_of f n l ≡ pointer_slots_of f n m
+pub no_literals : (f n l m : ℕ) → is_method f ≡ false → pointer_slots_of f n l ≡ pointer_slots_of f n m
 no_literals f n l m off = grind (arith, nat_tests, off)
 
 no_method : (f first : ℕ) → is_method f ≡ true → is_method f && not (has_literals 0 first) ≡ false → ⊥
@@ -66,7 +66,7 @@ known false r e k = k
 unformed : (class : ℕ) → class ≢ 0 → class ≢ 8 → is_unformed class ≡ false
 unformed class a b = rw (ne_eqb class 0 a, ne_eqb class 8 b) refl
 
-first_slot : (words : List ℕ) (s n : ℕ) → n ≢ 0 → get_or (take n (drop (s + 1) words)) 0 0 ≡ get_or words (s + 1) 0
+pub first_slot : (words : List ℕ) (s n : ℕ) → n ≢ 0 → get_or (take n (drop (s + 1) words)) 0 0 ≡ get_or words (s + 1) 0
 first_slot words s n o =
     let z : s + 1 + 0 ≡ s + 1 = omega arith in
     let l : 0 < n = omega (arith, o) in

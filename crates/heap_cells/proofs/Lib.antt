@@ -23,8 +23,10 @@ pub mod HeadReads
 pub mod Longer
 pub mod Ranges
 pub mod Wholes
+pub mod FormedHeads
 pub mod Writing
 pub mod ObjectReads
+pub mod LoadableReads
 pub mod ObjectWrites
 pub mod ObjectRewrites
 pub mod Appending

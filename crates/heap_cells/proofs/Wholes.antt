@@ -68,7 +68,7 @@ module _ (words : List ℕ) (from end : ℕ) (within : end ≤ length words) whe
       rw e (ended (at + c.size) cs k (suc n) t.1 (λ d m. r d (inr m)) next (omega arith))
 
   -- the walk over a row whose heads are read meets no refused chunk
-  none-refused : (cs : List Chunk) → Cuts words from end cs → AreRead words end cs → AllRead words from end
+  pub none-refused : (cs : List Chunk) → Cuts words from end cs → AreRead words end cs → AllRead words from end
   none-refused cs t r n b = elim (cases_lt b.k (length cs)) [
     | inl l ↦
         let p = placed from cs b.k 0 t r (first_place words from end) l in

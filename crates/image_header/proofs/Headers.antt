@@ -61,6 +61,10 @@ long h bare =
     let zeros : length (with_zeros h) ≡ 128 = length_put 80 (to_le_bytes w64 0) (with_segment h) (omega arith) ∙ segment in
     record { bare = bare; format = format; heap = heap; base = base; special = special; hash = hash; segment = segment; zeros = zeros }
 
+-- a header that is written has as many bytes
+pub written_long : (h : ImageHeader) → length h.carried ≡ 128 → length (written h) ≡ 128
+written_long h l = ap length (sym (written_is h)) ∙ (long h l).zeros
+
 -- a number before the later fields is as it was before these
 before_zeros : (h : ImageHeader) (w : Width) (from : ℕ) → AreLong h → from + byte_len w ≤ 80 → number w from (with_zeros h) ≡ number w from (with_segment h)
 before_zeros h w from l low = number_before w from 80 (to_le_bytes w64 0) (with_segment h) low (omega (arith, l.segment))

@@ -1,23 +1,23 @@
 -- Each word of a saved file has 64 bits.
-use Rattle.std.proofs.Common.{◌≡◌, ℕ, suc, zero, Bool, true, false, cond, eqb, ltb, ◌+◌, ◌-◌, ◌*◌, ◌/◌, ◌%◌, ◌^◌, ◌<◌, ◌≤◌, length, get_or, ap, ◌∙◌, subst, inl, inr, arith}
+use Rattle.std.proofs.Common.{◌≡◌, ℕ, suc, zero, true, cond, eqb, ltb, ◌+◌, ◌-◌, ◌*◌, ◌/◌, ◌%◌, ◌^◌, ◌<◌, ◌≤◌, length, get_or, ap, ◌∙◌, subst, inl, inr, arith}
 use Rattle.std.proofs.lemmas.Bool.{cases_Bool, cases_eq, cases_lt, eq-eqb, ne_eqb, lt-ltb, le-ltb}
 use Rattle.std.proofs.Math.ListN.{get_or-eq_default}
 use Rattle.std.specs.List.{All}
-use Rattle.object_header.specs.Head.{class_of}
 use Rattle.object_header.proofs.Fields.{field_of-lt}
 use Rattle.spur_graph.specs.ImageFile.{base}
 use Rattle.object_header.specs.Chunks.{Chunk}
-use Rattle.spur_graph.specs.Cells.{final}
+use Rattle.spur_graph.specs.Cells.{first, final}
 use Rattle.spur_graph.specs.Heaps.{View, IsWhole, store_of}
-use Rattle.heap_cells.proofs.Members.{in_list}
+use Rattle.heap_cells.proofs.Members.{In, in_list}
 use Rattle.heap_cells.proofs.CellKinds.{there_starts}
 use Rattle.spur_heap.proofs.Hops.{end_there}
-use Rattle.image_save.specs.Saved.{saved_header, saved_value, saved_slot, saved_at, saved_word, saved_chunks, region_place, file_words, file_place, cut, is_blank, value_count}
+use Rattle.image_save.specs.Saved.{saved_header, saved_value, saved_slot, object_word, free_word, has_object, saved_at, saved_word, saved_chunks, region_place, file_words, file_place, cut, value_count}
 use Rattle.image_save.specs.Places.{HasPlace, Begins, Covers}
 use Rattle.image_save.specs.Words.{IsValue}
 use Rattle.image_save.proofs.Placing.{file_old, file_eden, file_past}
 use Rattle.image_save.proofs.Parts.{whole_sound, spaced, seen, first_begins, next_begins, rises, start_has_place}
-use Rattle.image_save.proofs.Values.{unblank_value}
+use Rattle.image_save.proofs.Values.{counted_value}
+use Rattle.image_save.proofs.FreeWords.{either, free_fits}
 use Rattle.image_save.proofs.Ready.{word_behind, word_is}
 
 module _ (v : View) (whole : IsWhole v) where
@@ -42,9 +42,6 @@ module _ (v : View) (whole : IsWhole v) where
   covered zero l = from_begin 0 (first_begins v whole l)
   covered (suc i) l = next_covered i l (covered i (omega (arith, l)))
 
-  pub word_in_chunk : (i : ℕ) (l : i < file_words v) → saved_word v i ≡ saved_at v (covered i l).0.start (region_place v i)
-  word_in_chunk i l = word_is v whole i (covered i l).0 l (covered i l).1
-
   -- a place in the file
   pub place_below : (s : ℕ) → HasPlace v s → file_place v s < file_words v
   place_below s h = elim (cases_lt s (cut v)) [
@@ -54,6 +51,9 @@ module _ (v : View) (whole : IsWhole v) where
       | inr b ↦ let is = file_past v s a b in let low = h.past b in let up = h.inside in omega (arith, is, low, up)
     ]
   ]
+
+  pub chunk_small : (c : Chunk) → In (saved_chunks v) c → c.size ≤ 2 ^ 27
+  chunk_small c m = let l = (seen v whole c m).lies in let few = whole.few in omega (arith, l.before, few)
 
   pub small : file_words v ≤ 2 ^ 27
   small = let p = spaced v whole in let few = whole.few in omega (arith, p.old, p.eden, p.past, few)
@@ -73,12 +73,8 @@ module _ (v : View) (whole : IsWhole v) where
         let pinned = field_of-lt w 30 1 in
         let format = field_of-lt w 24 5 in
         let readonly = field_of-lt w 23 1 in
-        let class : cond (eqb (class_of w) 8) 0 (class_of w) < 2 ^ 22 = either (eqb (class_of w) 8) (class_of w) (field_of-lt w 0 22) in
+        let class = field_of-lt w 0 22 in
         omega (arith, count, hash, pinned, format, readonly, class)
-      where
-        either : (b : Bool) (n : ℕ) → n < 2 ^ 22 → cond b 0 n < 2 ^ 22
-        either true n l = omega arith
-        either false n l = l
 
     pub value_fits : (w : ℕ) → IsValue v w → w < 2 ^ 64 → saved_value v w < 2 ^ 64
     unfolding saved_value
@@ -93,35 +89,52 @@ module _ (v : View) (whole : IsWhole v) where
       | inr n ↦ let is : saved_value v w ≡ w = ap (λ b. cond b (base v.carried + 8 * file_place v (final (store_of v) (w / 8))) w) (ne_eqb (w % 8) 0 n) in omega (arith, is, l)
     ]
 
-    slot_fits : (s n : ℕ) → saved_slot v s n < 2 ^ 64
+    -- a slot of an object
+    slot_fits : (s n : ℕ) → has_object v s ≡ true → saved_slot v s n < 2 ^ 64
     unfolding saved_slot
-    slot_fits s n = elim (cases_Bool (is_blank v s)) [
-      | inl on ↦ let is : saved_slot v s n ≡ 0 = ap (λ b. cond b 0 (cond (ltb n (value_count v s)) (saved_value v (get_or v.words (s + 1 + n) 0)) (get_or v.words (s + 1 + n) 0))) on in omega (arith, is)
-      | inr off ↦
-          let front : saved_slot v s n ≡ cond (ltb n (value_count v s)) (saved_value v (get_or v.words (s + 1 + n) 0)) (get_or v.words (s + 1 + n) 0) = ap (λ b. cond b 0 (cond (ltb n (value_count v s)) (saved_value v (get_or v.words (s + 1 + n) 0)) (get_or v.words (s + 1 + n) 0))) off in
-          elim (cases_lt n (value_count v s)) [
-            | inl l ↦
-                let is : saved_slot v s n ≡ saved_value v (get_or v.words (s + 1 + n) 0) = front ∙ ap (λ b. cond b (saved_value v (get_or v.words (s + 1 + n) 0)) (get_or v.words (s + 1 + n) 0)) (lt-ltb n (value_count v s) l) in
-                let fits = value_fits (get_or v.words (s + 1 + n) 0) (unblank_value v (whole_sound v whole) s n off l) (word_fits (s + 1 + n)) in
-                omega (arith, is, fits)
-            | inr l ↦
-                let is : saved_slot v s n ≡ get_or v.words (s + 1 + n) 0 = front ∙ ap (λ b. cond b (saved_value v (get_or v.words (s + 1 + n) 0)) (get_or v.words (s + 1 + n) 0)) (le-ltb n (value_count v s) l) in
-                let fits = word_fits (s + 1 + n) in
-                omega (arith, is, fits)
-          ]
-    ]
+    slot_fits s n on =
+        let w : ℕ = get_or v.words (s + 1 + n) 0 in
+        let rest : ℕ = cond (ltb n (value_count v s)) (saved_value v w) w in
+        elim (cases_eq s (first (store_of v) 3)) [
+          | inl lists ↦ let is : saved_slot v s n ≡ 0 = ap (λ b. cond b 0 rest) (eq-eqb s (first (store_of v) 3) lists) in omega (arith, is)
+          | inr other ↦
+              let front : saved_slot v s n ≡ rest = ap (λ b. cond b 0 rest) (ne_eqb s (first (store_of v) 3) other) in
+              elim (cases_lt n (value_count v s)) [
+                | inl l ↦
+                    let is : saved_slot v s n ≡ saved_value v w = front ∙ ap (λ b. cond b (saved_value v w) w) (lt-ltb n (value_count v s) l) in
+                    let fits = value_fits w (counted_value v (whole_sound v whole) s n on other l) (word_fits (s + 1 + n)) in
+                    omega (arith, is, fits)
+                | inr l ↦
+                    let is : saved_slot v s n ≡ w = front ∙ ap (λ b. cond b (saved_value v w) w) (le-ltb n (value_count v s) l) in
+                    let fits = word_fits (s + 1 + n) in
+                    omega (arith, is, fits)
+              ]
+        ]
 
-    at_fits : (s q : ℕ) → saved_at v s q < 2 ^ 64
+    object_fits : (s q : ℕ) → has_object v s ≡ true → object_word v s q < 2 ^ 64
+    unfolding object_word
+    object_fits s q on = either (ltb q s) (get_or v.words q 0) (cond (eqb q s) (saved_header (get_or v.words q 0)) (saved_slot v s (q - (s + 1)))) (word_fits q)
+        (either (eqb q s) (saved_header (get_or v.words q 0)) (saved_slot v s (q - (s + 1))) (header_fits (get_or v.words q 0)) (slot_fits s (q - (s + 1)) on))
+
+    at_fits : (c : Chunk) (q : ℕ) → In (saved_chunks v) c → saved_at v c q < 2 ^ 64
     unfolding saved_at
-    at_fits s q = either (ltb q s) (get_or v.words q 0) (cond (eqb q s) (saved_header (get_or v.words q 0)) (saved_slot v s (q - (s + 1)))) (word_fits q)
-        (either (eqb q s) (saved_header (get_or v.words q 0)) (saved_slot v s (q - (s + 1))) (header_fits (get_or v.words q 0)) (slot_fits s (q - (s + 1))))
-      where
-        either : (b : Bool) (x y : ℕ) → x < 2 ^ 64 → y < 2 ^ 64 → cond b x y < 2 ^ 64
-        either true x y l m = l
-        either false x y l m = m
+    at_fits c q m = elim (cases_Bool (has_object v c.start)) [
+      | inl on ↦
+          let is : saved_at v c q ≡ object_word v c.start q = ap (λ b. cond b (object_word v c.start q) (free_word c.size (q - c.at))) on in
+          let fits = object_fits c.start q on in
+          omega (arith, is, fits)
+      | inr off ↦
+          let is : saved_at v c q ≡ free_word c.size (q - c.at) = ap (λ b. cond b (object_word v c.start q) (free_word c.size (q - c.at))) off in
+          let fits = free_fits c.size (q - c.at) (chunk_small c m) in
+          omega (arith, is, fits)
+    ]
 
     pub saved_fits : (i : ℕ) → saved_word v i < 2 ^ 64
     saved_fits i = elim (cases_lt i (file_words v)) [
-      | inl l ↦ let is = word_in_chunk i l in let fits = at_fits (covered i l).0.start (region_place v i) in omega (arith, is, fits)
+      | inl l ↦
+          let c = covered i l in
+          let is = word_is v whole i c.0 l c.1 in
+          let fits = at_fits c.0 (region_place v i) (in_list (saved_chunks v) c.0 c.1.saved) in
+          omega (arith, is, fits)
       | inr l ↦ let is = word_behind v i l in omega (arith, is)
     ]

@@ -7,4 +7,15 @@ pub mod Ready
 pub mod Looks
 pub mod Walk
 pub mod Values
+pub mod FreeWords
 pub mod Fits
+pub mod Reading
+pub mod SavedHeaders
+pub mod Moves
+pub mod Ranges
+pub mod Objects
+pub mod Firsts
+pub mod Standing
+pub mod Placed
+pub mod Unrefused
+pub mod Denoting

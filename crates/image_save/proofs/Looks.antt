@@ -1,15 +1,14 @@
 -- The cursor at a chunk.
-use Rattle.std.proofs.Common.{◌≡◌, ℕ, Bool, true, false, not, ◌||◌, eqb, ◌+◌, ◌<◌, length, get_or, refl, sym, ap, ◌∙◌, arith}
-use Rattle.object_header.specs.Head.{class_of}
+use Rattle.std.proofs.Common.{◌≡◌, ℕ, Bool, true, false, cond, not, ◌+◌, ◌<◌, length, get_or, sym, ap, ◌∙◌, arith, Option, Some, None}
+use Rattle.object_header.specs.Head.{class_of, is_unformed}
 use Rattle.object_header.specs.Chunks.{Chunk, chunk_of}
-use Rattle.spur_graph.specs.Cells.{first, is_there, pointer_count}
+use Rattle.spur_graph.specs.Cells.{pointer_count}
 use Rattle.spur_graph.specs.Ordinary.{body_at}
 use Rattle.spur_graph.specs.Heaps.{View, IsWhole, store_of}
 use Rattle.heap_cells.proofs.Members.{In, in_list}
-use Rattle.image_save.specs.Saved.{saved_chunks, value_count}
-use Rattle.image_save.specs.Places.{Begins, IsAt}
+use Rattle.image_save.specs.Saved.{saved_chunks, has_object, value_count}
+use Rattle.image_save.specs.Places.{Begins, IsAt, pointers_at}
 use Rattle.image_save.proofs.Parts.{seen}
-use Rattle.image_save.proofs.Ready.{blank_by}
 
 pub record Here (v : View) (q : ℕ) (b : Begins v q) : Type 0 where
   pub inside : q < length v.words
@@ -35,33 +34,29 @@ module _ (v : View) (whole : IsWhole v) (q : ℕ) (b : Begins v q) where
         more = omega (arith, b.here, l.lead, l.room);
       }
 
-  module _ (start lists : ℕ) (start_is : start ≡ (chunk_of q (get_or v.words q 0)).start) where
+  module _ (start end : ℕ) (start_is : start ≡ (chunk_of q (get_or v.words q 0)).start) where
     same : start ≡ b.chunk.start
     same = start_is ∙ sym here.start
 
-    pub there_at : (eqb (class_of (get_or v.words start 0)) 0 || eqb (class_of (get_or v.words start 0)) 8 || eqb start lists) ≡ false → is_there ((store_of v).cell start) ≡ true
-    there_at off =
-        let s = seen v whole b.chunk in_saved in
-        let front : (eqb (class_of (get_or v.words start 0)) 0 || eqb (class_of (get_or v.words start 0)) 8) ≡ false = first_off (eqb (class_of (get_or v.words start 0)) 0) (eqb (class_of (get_or v.words start 0)) 8) (eqb start lists) off in
-        ap (λ n. is_there ((store_of v).cell n)) same ∙ s.there ∙ ap (λ n. not (eqb (class_of (get_or v.words n 0)) 0 || eqb (class_of (get_or v.words n 0)) 8)) (sym same) ∙ ap not front
-      where
-        first_off : (a c d : Bool) → (a || c || d) ≡ false → (a || c) ≡ false
-        first_off true c d e = e
-        first_off false true d e = e
-        first_off false false d e = refl
+    -- its header tells whether it is an object
+    pub there_by : (unformed : Bool) → is_unformed (class_of (get_or v.words start 0)) ≡ unformed → has_object v start ≡ not unformed
+    there_by unformed is =
+        ap (has_object v) same ∙ (seen v whole b.chunk in_saved).there ∙ ap (λ n. not (is_unformed (class_of (get_or v.words n 0)))) (sym same) ∙ ap not is
 
-  pub at_by : (start end : ℕ) (blank : Bool) (values lists : ℕ) → lists ≡ first (store_of v) 3 → start ≡ (chunk_of q (get_or v.words q 0)).start → end ≡ q + (chunk_of q (get_or v.words q 0)).size
-      → blank ≡ (eqb (class_of (get_or v.words start 0)) 0 || eqb (class_of (get_or v.words start 0)) 8 || eqb start lists) → (blank ≡ false → values ≡ pointer_count (body_at (store_of v) start))
-      → IsAt v q (record { start = start; end = end; blank = blank; values = values })
-  unfolding value_count
-  at_by start end blank values lists lists_is start_is end_is blank_is values_are =
-      let h = here in
-      let same_start : start ≡ b.chunk.start = start_is ∙ sym h.start in
-      record {
-        chunk = b.chunk;
-        covers = record { saved = b.saved; from = omega (arith, b.here); to = h.more };
-        start_is = same_start;
-        end_is = end_is ∙ sym h.end;
-        blank_is = blank_is ∙ (λ i. eqb (class_of (get_or v.words (same_start i) 0)) 0 || eqb (class_of (get_or v.words (same_start i) 0)) 8 || eqb (same_start i) (lists_is i)) ∙ sym (blank_by v whole b.chunk in_saved);
-        values_are = λ off. values_are off ∙ ap (λ n. pointer_count (body_at (store_of v) n)) same_start;
-      }
+    at_by : (pointers : Option ℕ) → end ≡ q + (chunk_of q (get_or v.words q 0)).size → pointers ≡ pointers_at v start → IsAt v q (record { at = q; start = start; end = end; pointers = pointers })
+    at_by pointers end_is pointers_are = record {
+      chunk = b.chunk;
+      covers = record { saved = b.saved; from = omega (arith, b.here); to = here.more };
+      at_is = sym b.here;
+      start_is = same;
+      end_is = end_is ∙ sym here.end;
+      pointers_are = pointers_are ∙ ap (pointers_at v) same;
+    }
+
+    pub at_unformed : end ≡ q + (chunk_of q (get_or v.words q 0)).size → is_unformed (class_of (get_or v.words start 0)) ≡ true → IsAt v q (record { at = q; start = start; end = end; pointers = None })
+    at_unformed end_is on = at_by None end_is (sym (ap (λ k. cond k (Some (value_count v start)) None) (there_by true on)))
+
+    pub at_object : (pointers : ℕ) → end ≡ q + (chunk_of q (get_or v.words q 0)).size → is_unformed (class_of (get_or v.words start 0)) ≡ false → pointers ≡ pointer_count (body_at (store_of v) start)
+        → IsAt v q (record { at = q; start = start; end = end; pointers = Some pointers })
+    unfolding value_count
+    at_object pointers end_is off count = at_by (Some pointers) end_is (ap (λ n. Some n) count ∙ sym (ap (λ k. cond k (Some (value_count v start)) None) (there_by false off)))

@@ -15,7 +15,7 @@ use Rattle.spur_heap.proofs.Orders.{order}
 use Rattle.spur_heap.proofs.Hops.{reference_named}
 use Rattle.spur_heap.proofs.Following.{good_reference}
 use Rattle.spur_heap.proofs.Pages.{word_named, an_entry}
-use Rattle.image_save.specs.Saved.{is_blank, value_count}
+use Rattle.image_save.specs.Saved.{value_count}
 use Rattle.image_save.specs.Words.{IsValue}
 
 module _ (v : View) (k : AreSound v) where
@@ -129,16 +129,7 @@ module _ (v : View) (k : AreSound v) where
         ap (λ t. is_there (h.cell t)) (sym same) ∙ p.1.there
   ]
 
-  -- the same by the tests that a cursor has
-  pub unblank_value : (s n : ℕ) → is_blank v s ≡ false → n < value_count v s → IsValue v (get_or v.words (s + 1 + n) 0)
-  unfolding is_blank value_count
-  unblank_value s n off l = slot_value s n there other l
-    where
-      there : is_there (h.cell s) ≡ true
-      there = elim (cases_Bool (is_there (h.cell s))) [
-        | inl on ↦ on
-        | inr no_one ↦ absurd (false≢true (sym off ∙ ap (λ b. not b || eqb s (first h 3)) no_one))
-      ]
-
-      other : s ≢ first h 3
-      other e = false≢true (sym off ∙ ap (λ b. not b || eqb s (first h 3)) there ∙ eq-eqb s (first h 3) e)
+  -- the same by the count that a cursor has
+  pub counted_value : (s n : ℕ) → is_there (h.cell s) ≡ true → s ≢ first h 3 → n < value_count v s → IsValue v (get_or v.words (s + 1 + n) 0)
+  unfolding value_count
+  counted_value s n there other l = slot_value s n there other l

@@ -1,3 +1,4 @@
 pub mod Saved
 pub mod Places
 pub mod Words
+pub mod Denotes

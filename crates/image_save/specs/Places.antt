@@ -1,5 +1,5 @@
 -- The places of a heap, as the walk over its words has them.
-use Rattle.std.specs.Prelude.{ℕ, ◌≡◌, ◌+◌, ◌≤◌, ◌<◌, false, length}
+use Rattle.std.specs.Prelude.{ℕ, ◌≡◌, ◌+◌, ◌≤◌, ◌<◌, length, if◌then◌else◌, Option, Some, None}
 use Rattle.std.specs.List.{Contains}
 use Rattle.spur_graph.specs.ImageFile.{base}
 use Rattle.spur_graph.specs.ImageCauses.{greatest_base, most_words}
@@ -8,7 +8,7 @@ use Rattle.spur_graph.specs.Cells.{first}
 use Rattle.spur_graph.specs.Heaps.{View, store_of}
 use Rattle.image_save.specs.declared.places.Places.{Places}
 use Rattle.image_save.specs.declared.cursor.Cursor.{Cursor}
-use Rattle.image_save.specs.Saved.{cut, file_words, region_place, saved_chunks, is_blank, value_count}
+use Rattle.image_save.specs.Saved.{cut, file_words, region_place, saved_chunks, has_object, value_count}
 
 -- the numbers are those of the heap, and small
 pub record ArePlaces (v : View) (p : Places) : Type 0 where
@@ -45,14 +45,18 @@ pub record Covers (v : View) (c : Chunk) (q : ℕ) : Type 0 where
   pub from : c.at ≤ q
   pub to : q < c.at + c.size
 
+-- how many slots of the object at a start are pointers; none where no object stands
+abbrev pub pointers_at : View → ℕ → Option ℕ
+pointers_at v s = if has_object v s then Some (value_count v s) else None
+
 -- the cursor is at the chunk that has the word
 pub record IsAt (v : View) (q : ℕ) (cursor : Cursor) : Type 0 where
   pub chunk : Chunk
   pub covers : Covers v chunk q
+  pub at_is : cursor.at ≡ chunk.at
   pub start_is : cursor.start ≡ chunk.start
   pub end_is : cursor.end ≡ chunk.at + chunk.size
-  pub blank_is : cursor.blank ≡ is_blank v chunk.start
-  pub values_are : cursor.blank ≡ false → cursor.values ≡ value_count v chunk.start
+  pub pointers_are : cursor.pointers ≡ pointers_at v chunk.start
 
 -- the cursor is at the chunk of word `i` of the file, or before it, and then a chunk begins there
 pub record IsReady (v : View) (i : ℕ) (cursor : Cursor) : Type 0 where

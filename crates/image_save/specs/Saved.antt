@@ -1,11 +1,13 @@
 -- The bytes of a heap that is saved. Old space up to its last chunk that is no free one, the used eden and the used past space are closed up; chunks keep
--- their order and their sizes, so that a word's place in the file is its place in the region less what was cut out before it.
-use Rattle.std.specs.Prelude.{ℕ, ◌≡◌, ◌⊎◌, ◌+◌, ◌-◌, ◌*◌, ◌/◌, ◌%◌, ◌^◌, List, [], ◌∷◌, ◌++◌, map, take, slice_index, Bool, not, ◌||◌, if◌then◌else◌, nat_eq, nat_lt}
+-- their order and their sizes, so that a word's place in the file is its place in the region less what was cut out before it. Of a free chunk and of a
+-- forwarder nothing is saved but its size: each is written as the free chunk of so many words.
+use Rattle.std.specs.Prelude.{ℕ, ◌≡◌, ◌⊎◌, ◌+◌, ◌-◌, ◌*◌, ◌/◌, ◌%◌, ◌^◌, List, [], ◌∷◌, ◌++◌, map, take, slice_index, Bool, if◌then◌else◌, nat_eq, nat_lt}
 use Rattle.std.specs.List.{flat_map, range_with_len}
 use Rattle.std.specs.Int.{w64, to_le_bytes}
-use Rattle.object_header.specs.Fields.{Fields, fields_of}
+use Rattle.object_header.specs.Fields.{Fields, fields_of, free_header}
 use Rattle.object_header.specs.Head.{class_of}
-use Rattle.object_header.specs.declared.header.TheConstants.{FREE_CLASS, FORWARDER_CLASS}
+use Rattle.object_header.specs.declared.header.TheConstants.{FREE_CLASS, OVERFLOW_COUNT}
+use Rattle.spur_graph.specs.BaseImage.{overflow_word}
 use Rattle.spur_graph.specs.ImageFile.{base, spur_format}
 use Rattle.object_header.specs.Chunks.{Chunk}
 use Rattle.spur_graph.specs.Cells.{pointer_count, first, final, is_there}
@@ -63,13 +65,13 @@ chunk_over (c ∷ cs) q = if nat_lt q (c.at + c.size) then c else chunk_over cs 
 
 -- ---- the words
 
--- a header with this class and no mark, grey or remembered bit, and none of no field
-abbrev pub header_from : Fields → ℕ → ℕ
-header_from f class = f.count * 2 ^ 56 + f.hash * 2 ^ 32 + f.pinned * 2 ^ 30 + f.format * 2 ^ 24 + f.readonly * 2 ^ 23 + class
+-- a header with these fields but no mark, grey or remembered bit, and no bit of no field
+abbrev pub header_from : Fields → ℕ
+header_from f = f.count * 2 ^ 56 + f.hash * 2 ^ 32 + f.pinned * 2 ^ 30 + f.format * 2 ^ 24 + f.readonly * 2 ^ 23 + f.class
 
--- a forwarder is a free chunk of its words
+-- the header of an object
 unfoldable pub saved_header : ℕ → ℕ
-saved_header word = header_from (fields_of word) (if nat_eq (class_of word) FORWARDER_CLASS then FREE_CLASS else class_of word)
+saved_header word = header_from (fields_of word)
 
 -- the address of a word of the file's heap
 abbrev pub address : View → ℕ → ℕ
@@ -79,32 +81,42 @@ address v s = base v.carried + 8 * file_place v s
 unfoldable pub saved_value : View → ℕ → ℕ
 saved_value v word = if nat_eq (word % 8) 0 then address v (final (store_of v) (word / 8)) else word
 
--- the words behind the header are written as 0: of a free chunk, of a forwarder and of the free lists object
-unfoldable pub is_blank : View → ℕ → Bool
-is_blank v s = not (is_there ((store_of v).cell s)) || nat_eq s (first (store_of v) 3)
-
 -- how many words behind the header are values
 unfoldable pub value_count : View → ℕ → ℕ
 value_count v s = pointer_count (body_at (store_of v) s)
 
--- word `k` behind the header at `s`
+-- word `k` behind the header of the object at `s`; those of the free lists object are written as 0
 unfoldable pub saved_slot : View → ℕ → ℕ → ℕ
 saved_slot v s k =
-    if is_blank v s then 0
+    if nat_eq s (first (store_of v) 3) then 0
     else if nat_lt k (value_count v s) then saved_value v (slice_index v.words (s + 1 + k))
     else slice_index v.words (s + 1 + k)
 
--- the word `q` of the region, in the chunk that starts at `s`, as it is saved
-unfoldable pub saved_at : View → ℕ → ℕ → ℕ
-saved_at v s q =
+-- the word `q` of the region, in the object at `s`
+unfoldable pub object_word : View → ℕ → ℕ → ℕ
+object_word v s q =
     if nat_lt q s then slice_index v.words q
     else if nat_eq q s then saved_header (slice_index v.words q)
     else saved_slot v s (q - (s + 1))
 
+-- word `k` of a free chunk of `size` words: its head words, and 0 behind them. It has an overflow word exactly where it has more than 255 words
+unfoldable pub free_word : ℕ → ℕ → ℕ
+free_word size k =
+    if nat_lt 255 size then (if nat_eq k 0 then overflow_word (size - 2) else if nat_eq k 1 then free_header OVERFLOW_COUNT else 0)
+    else if nat_eq k 0 then free_header (size - 1) else 0
+
+-- an object stands there
+abbrev pub has_object : View → ℕ → Bool
+has_object v s = is_there ((store_of v).cell s)
+
+-- the word `q` of the region, in this chunk, as it is saved. What is no object is a free chunk or a forwarder
+unfoldable pub saved_at : View → Chunk → ℕ → ℕ
+saved_at v c q = if has_object v c.start then object_word v c.start q else free_word c.size (q - c.at)
+
 -- word `i` of the file's heap; behind the chunks stands a bridge of two words 0
 unfoldable pub saved_word : View → ℕ → ℕ
 saved_word v i =
-    if nat_lt i (file_words v) then saved_at v (chunk_over (saved_chunks v) (region_place v i)).start (region_place v i)
+    if nat_lt i (file_words v) then saved_at v (chunk_over (saved_chunks v) (region_place v i)) (region_place v i)
     else 0
 
 -- the words of the chunks

@@ -1,6 +1,6 @@
 // A walk over the chunks that are saved, word by word. Each chunk is looked at once, when the walk comes to its first word.
-ghost use Rattle.std.specs.Prelude.{◌≡◌, ◌<◌, ◌≤◌, ◌+◌, length, nat_eq, ◌||◌};
-ghost use Rattle.object_header.specs.Head.{class_of};
+ghost use Rattle.std.specs.Prelude.{◌≡◌, ◌<◌, ◌≤◌, ◌+◌, length};
+ghost use Rattle.object_header.specs.Head.{class_of, is_unformed};
 ghost use Rattle.spur_graph.specs.Heaps.{IsWhole};
 ghost use Rattle.spur_heap.specs.Parts.{view_of};
 ghost use Rattle.image_save.specs.Saved.{region_place, file_words};
@@ -14,14 +14,14 @@ use spur_heap::{HeapParts, pointer_count_of};
 /// The chunk whose words are written, by places in the region.
 #[derive(Clone, Copy)]
 pub(crate) struct Cursor {
-    /// Where its header stands. A word before it is an overflow word.
+    /// Where its first word stands.
+    pub at: usize,
+    /// Where its header stands, behind an overflow word if it has one.
     pub start: usize,
     /// Where its last word ends.
     pub end: usize,
-    /// Whether the words behind the header are written as 0.
-    pub blank: bool,
-    /// If not, how many of them are pointer slots. These are the first.
-    pub values: usize,
+    /// How many slots of an object are pointers. These are the first. A free chunk and a forwarder have none to be followed: `None`.
+    pub pointers: Option<usize>,
 }
 
 /// The cursor before all chunks.
@@ -29,20 +29,19 @@ pub(crate) fn before() -> Cursor
     ensures { result.end ≡ 0 }
 {
     Cursor {
+        at: 0,
         start: 0,
         end: 0,
-        blank: true,
-        values: 0,
+        pointers: None,
     }
 }
 
-/// Whether the words behind this header, at `start`, are written as 0: those of a free chunk, of a forwarder and of the free lists object, which starts at
-/// `lists`. Who loads the file builds lists of its own.
-fn is_blank(header: u64, start: usize, lists: usize) -> bool
-    ensures { result ≡ (nat_eq (class_of header) FREE_CLASS || nat_eq (class_of header) FORWARDER_CLASS || nat_eq start lists) }
+/// Whether this header is that of a free chunk or a forwarder, and of no object.
+fn is_unformed(header: u64) -> bool
+    ensures { result ≡ is_unformed (class_of header) }
 {
     let class = Header(header).class();
-    class == FREE_CLASS || class == FORWARDER_CLASS || start == lists
+    class == FREE_CLASS || class == FORWARDER_CLASS
 }
 
 /// The cursor at the chunk that begins at the word `at`.
@@ -53,19 +52,19 @@ pub(crate) fn look(parts: &HeapParts, places: &Places, at: usize) -> Cursor
     ensures { IsAt (view_of parts.now) at result }
 {
     let span = span_of(at, parts.region.get(at));
-    if is_blank(parts.region.get(span.start), span.start, places.lists) {
+    if is_unformed(parts.region.get(span.start)) {
         return Cursor {
+            at,
             start: span.start,
             end: span.end,
-            blank: true,
-            values: 0,
+            pointers: None,
         };
     }
     Cursor {
+        at,
         start: span.start,
         end: span.end,
-        blank: false,
-        values: pointer_count_of(parts, span.start),
+        pointers: Some(pointer_count_of(parts, span.start)),
     }
 }
 

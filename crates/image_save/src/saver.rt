@@ -4,12 +4,15 @@ ghost use Rattle.spur_io.specs.Store.{Changes};
 ghost use Rattle.spur_io.specs.Causes.{FileCause};
 ghost use Rattle.spur_graph.specs.Heaps.{IsWhole};
 ghost use Rattle.spur_heap.specs.Parts.{view_of};
-ghost use Rattle.image_save.specs.Saved.{IsSaved, IsCutShort};
+ghost use Rattle.spur_graph.specs.Denotes.{Denotes};
+ghost use Rattle.image_save.specs.Saved.{saved_text, IsSaved, IsCutShort};
+ghost use Rattle.image_save.specs.Denotes.{bare_graph};
 
 use crate::cursor::before;
 use crate::image::{BRIDGE_WORDS, header_bytes};
 use crate::places::places_of;
 use crate::words::{PIECE_WORDS, words_piece};
+use spur_graph::words_fit;
 use spur_heap::{Heap, HeapParts};
 use spur_io::{FileFault, Files};
 
@@ -47,8 +50,11 @@ pub fn save<F: Files>(heap: &Heap, files: &mut F, name: &str) -> Result<(), File
     ensures saved { OnOk result (Changes (F.told files.old) (F.told files.new) name.now (IsSaved heap.now)) }
     ensures cut { OnErr result (Changes (F.told files.old) (F.told files.new) name.now (IsCutShort heap.now)) }
     ensures told { IsSome (F.told files.new) ↔ IsSome (F.told files.old) }
+    ensures denotes { Denotes (saved_text heap.now) (bare_graph heap.now) }
     ensures reads { F.read_count files.new ≡ F.read_count files.old }
     ensures cause { FileCause (F.write_count files.old) (F.write_count files.new) result }
 {
-    save_parts(&heap.parts, files, name)
+    let parts = &heap.parts;
+    words_fit(parts.region.as_slice());
+    save_parts(parts, files, name)
 }

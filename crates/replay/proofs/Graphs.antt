@@ -11,7 +11,7 @@ use Rattle.spur_graph.specs.Graph.{held, bind, unbind}
 use Rattle.spur_graph.specs.Cells.{first}
 use Rattle.spur_graph.specs.Refusals.{test, unknown, handles}
 use Rattle.spur_graph.specs.Heaps.{View, IsWhole, heap_graph}
-use Rattle.spur_heap.specs.Views.{IsOrdinary, store, node_in}
+use Rattle.spur_heap.specs.Views.{store}
 use Rattle.replay.specs.Sessions.{graph_of, room_of, value_in}
 use Rattle.replay.specs.Commands.{Becomes, Keeps}
 use Rattle.handle_table.proofs.Bound.{remove-absent}
@@ -101,11 +101,6 @@ room_held v k h (Some word) is some = rw (held_value v k h word is) refl
 pub names_fresh : (v : View) → IsWhole v → (a : ℕ) → (graph_of v).next ≤ a → get (graph_of v).nodes a ≡ None
 unfolding graph_of
 names_fresh v w a past = nodes.names_fresh v w a past
-
--- the node of an object
-pub get_there : (v : View) (s : ℕ) → IsOrdinary v s → get (graph_of v).nodes s ≡ Some (node_in v s)
-unfolding graph_of
-get_there v s there = nodes.get_there v s there
 
 -- what the roots name
 pub nil_named : (v : View) → (graph_of v).nil ≡ first (store v) 0

@@ -7,10 +7,16 @@ pub mod Changed
 pub mod Unsettled
 pub mod Written
 pub mod Objects
+pub mod Told
 pub mod Steps
+pub mod SavedLines
 pub mod Made
 pub mod ScriptLines
+pub mod ScriptFile
 pub mod Answering
+pub mod Pieces
+pub mod Endings
 pub mod Scripts
 pub mod Outcomes
+pub mod Statuses
 pub mod Words

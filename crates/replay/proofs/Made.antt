@@ -10,7 +10,6 @@ use Rattle.spur_graph.specs.declared.answer.Value.{Value}
 use Rattle.spur_graph.specs.declared.answer.Value.TheVariants.{Ref}
 use Rattle.spur_graph.specs.declared.answer.Answer.TheVariants as answers
 use Rattle.spur_graph.specs.declared.answer.Refusal.{Refusal}
-use Rattle.spur_graph.specs.declared.answer.Refusal.TheVariants as r
 use Rattle.spur_graph.specs.Bytes.{Text}
 use Rattle.spur_graph.specs.Value.{is_immediate, name_of}
 use Rattle.spur_graph.specs.Node.{Node}
@@ -24,7 +23,7 @@ use Rattle.spur_graph.specs.Hashes.{hash_now, hashed, free_index, entered}
 use Rattle.spur_graph.specs.Form.{Enter, Hash, Stat}
 use Rattle.spur_graph.specs.State.{State, made}
 use Rattle.spur_graph.specs.State.{made as made_state}
-use Rattle.spur_graph.specs.Refusals.{first, test, unknown, handles, is_special}
+use Rattle.spur_graph.specs.Refusals.{first, unknown, handles, is_special}
 use Rattle.spur_graph.specs.Refused.{refused}
 use Rattle.spur_graph.specs.Does.{room_entered, Does}
 use Rattle.spur_graph.specs.Step.{SameRoom, Renamed}
@@ -34,17 +33,16 @@ use Rattle.spur_heap.specs.declared.allocation.Space.{Space}
 use Rattle.spur_heap.specs.declared.allocation.Space.TheVariants as spaces
 use Rattle.spur_heap.specs.Allocating.{source_of}
 use Rattle.class_table.specs.Rows.{instance_slots, instance_row, enter_row}
-use Rattle.class_table.specs.Instantiating.{Instantiates, KeepsTables}
+use Rattle.class_table.specs.Instantiating.{Instantiates}
 use Rattle.graph_laws.proofs.Named.{IsNamed, all_named, get-here}
 use Rattle.graph_laws.proofs.Changes.{made-renamed, q}
 use Rattle.graph_laws.proofs.Fresh.{fresh-iso, fresh-room}
 use Rattle.graph_laws.proofs.Outcomes.{fresh_node-renamed}
 use Rattle.graph_laws.proofs.Rooms.{served-keeps}
 use Rattle.replay.specs.Sessions.{graph_of, room_of, value_in, over}
-use Rattle.replay.specs.Commands.{Obeys, ObeysExactly, Becomes, Keeps, asked}
+use Rattle.replay.specs.Commands.{Obeys, ObeysExactly, Becomes, asked}
 use Rattle.replay.proofs.Graphs.{names_fresh, handles_counted}
 use Rattle.spur_heap.proofs.RoomNames.{no_spot_without, no_old_name_without}
-use Rattle.spur_graph.proofs.Refusing.{alone}
 use Rattle.replay.proofs.Steps.{unrenamed, over_is}
 
 -- ---- rows
@@ -54,9 +52,6 @@ module _ (s : State) (k : ℕ) (c : Text) (v : Value) (is : held s.graph k c ≡
   make_row spaces.Any h n = rw (is, or-false (is_immediate v)) refl
   make_row spaces.Old h n = rw (is, or-false (is_immediate v)) refl
 
-  pub hash_row : refused s k (Hash c) ≡ test (is_immediate v) r.Immediate
-  hash_row = rw (is, or-false (is_immediate v)) (alone (test (is_immediate v) r.Immediate))
-
   pub class_row : refused s k (Enter c) ≡ first (enter_row s.graph s.room v)
   class_row = rw (is, or-false (is_immediate v), or-false (is_special s.graph (name_of v))) refl
 
@@ -64,10 +59,6 @@ module _ (s : State) (k : ℕ) (c : Text) (v : Value) (is : held s.graph k c ≡
 pub make_unknown : (s : State) (k : ℕ) (space : Space) (h c : Text) (n : ℕ) (why : Refusal) → unknown s.graph k (c ∷ []) ≡ Some why → refused s k (asked space h c n) ≡ Some why
 make_unknown s k spaces.Any h c n why is = rw (is) refl
 make_unknown s k spaces.Old h c n why is = rw (is) refl
-
--- a handle too many
-pub no_room : (s : State) (k : ℕ) (space : Space) (h c : Text) (n : ℕ) (v : Value) (why : Refusal) → held s.graph k c ≡ Some v → handles s.graph k h ≡ Some why → refused s k (asked space h c n) ≡ Some why
-no_room s k space h c n v why is full = make_row s k c v is space h n ∙ ap (λ o. first (o ∷ instance_row s.graph s.room v n (source_of space))) full
 
 pub some_room : (s : State) (k : ℕ) (space : Space) (h c : Text) (n : ℕ) (v : Value) → held s.graph k c ≡ Some v → handles s.graph k h ≡ None → refused s k (asked space h c n) ≡ first (instance_row s.graph s.room v n (source_of space))
 some_room s k space h c n v is room = make_row s k c v is space h n ∙ ap (λ o. first (o ∷ instance_row s.graph s.room v n (source_of space))) room
@@ -80,17 +71,6 @@ instances_refused v class n source = refl
 pub enters_refused : (v : View) (class : ℕ) → first (enter_row (graph_of v) (room_of v) (value_in v class)) ≡ first (enter_row (heap_graph v) (heap_room v) (heap_value v class))
 unfolding graph_of room_of
 enters_refused v class = refl
-
--- ---- what is kept
-
-pub tables_keep : (old new : View) → KeepsTables old new → Keeps old new
-tables_keep old new is = record { carried = ap (λ (u : View). u.carried) is; limits = ap (λ (u : View). u.limits) is; phase = ap (λ (u : View). u.phase) is }
-
-pub keeps_on : {a b c : View} → Keeps a b → Keeps b c → Keeps a c
-keeps_on one two = record { carried = two.carried ∙ one.carried; limits = two.limits ∙ one.limits; phase = two.phase ∙ one.phase }
-
-pub keeps_itself : (v : View) → Keeps v v
-keeps_itself v = record { carried = refl; limits = refl; phase = refl }
 
 -- ---- an instance is made
 

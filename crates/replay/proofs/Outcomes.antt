@@ -1,9 +1,11 @@
 -- What a run of the program put, by its status.
-use Rattle.std.proofs.Common.{◌≡◌, ℕ, List, take, Option, Some, None, Ok, Err, Result, refl, sym, subst, ◌∙◌, false}
+use Rattle.std.proofs.Common.{◌≡◌, ℕ, List, take, Bool, true, false, Option, Some, None, Ok, Err, Result, refl, sym, subst, ◌∙◌}
 use Rattle.std.specs.Option.{IfSome}
-use Rattle.spur_io.specs.Store.{FileMap, Puts}
+use Rattle.spur_io.specs.Store.{Puts}
+use Rattle.spur_io.specs.Causes.{SinkCause}
 use Rattle.spur_io.specs.declared.sink.SinkFault.{SinkFault}
 use Rattle.spur_io.specs.declared.sink.SinkFault.TheVariants as sink
+use Rattle.spur_io.specs.declared.files.FileFault.TheVariants as file
 use Rattle.spur_graph.specs.declared.limits.Limits.{Limits}
 use Rattle.spur_graph.specs.Bytes.{Text}
 use Rattle.spur_graph.specs.State.{State, Files}
@@ -16,15 +18,18 @@ use Rattle.spur_graph.specs.Heaps.{View, Stands, Whole}
 use Rattle.image_file.specs.declared.error.LoadError.{LoadError}
 use Rattle.image_file.specs.declared.error.LoadError.TheVariants as errors
 use Rattle.image_file.specs.Errors.{IsCauseOf}
+use Rattle.replay.specs.declared.session.Fault.TheVariants as fault
 use Rattle.replay.specs.declared.runs.Stop.{Stop}
 use Rattle.replay.specs.declared.runs.Stop.TheVariants as stop
 use Rattle.replay.specs.declared.runs.Status.{Status}
 use Rattle.replay.specs.declared.runs.Status.TheVariants as status
-use Rattle.replay.specs.Sessions.{SessionView, IsStateOf, IsAt, SameRun, graph_of, room_of, over}
-use Rattle.replay.specs.Runs.{IsReplay, IsMisused, IsKept, IsOpen, IsLeft, Judges, Outcome, done, usage, refused, unread_image, unread_script, too_long, cut_short, no_memory, no_memory_for_image, in_usage, in_refusal, in_answers, PutsAll, PutsPart, first_state, usage_line, most_script_bytes}
-use Rattle.replay.specs.Answered.{AnsweredPart, AnsweredAll, ScriptRun}
-use Rattle.replay.specs.Stops.{IsPut, IsPutCause, IsRefusing, put_status, stop_status, status_of}
+use Rattle.replay.specs.Sessions.{SessionView, IsStateOf, SameRun, WhereTold, graph_of, room_of, over}
+use Rattle.replay.specs.Runs.{Around, IsReplay, IsMisused, IsKept, Outcome, done, usage, refused, unread_image, unread_script, too_long, cut_short, unsaved, no_memory, no_memory_to_save, no_memory_for_image, in_usage, in_refusal, in_answers, at_save, PutsAll, PutsPart, PutsToSave, first_state, usage_line, most_script_bytes}
+use Rattle.replay.specs.Answered.{AnsweredPart, AnsweredAll, AnsweredToSave, ScriptRun}
+use Rattle.replay.specs.LineRuns.{EndsBy, StopCause}
+use Rattle.replay.specs.Stops.{IsPut, IsPutCause, IsRefusing, put_status, status_of}
 use Rattle.replay.proofs.Graphs.{names_fresh}
+use Rattle.replay.proofs.Told.{told_as, told_still}
 use Rattle.replay.proofs.Scripts.{Ran}
 
 -- a heap that stands for the graph and the room of an image is in a state that differs from the first in names alone
@@ -40,181 +45,156 @@ started files image script limits v stands = record {
   next = names_fresh v stands.whole;
 }
 
-module _ (words : List Text) (files : Files) (image script : Text) (limits : Limits) (before : List ℕ) (after : Option (List ℕ)) (kept : Option SessionView) where
-  module _ (start : State) (session : SessionView) (good : IsAccepted (files image) limits) (named : Renamed (first_state files image script limits) start) where
+module _ (words : List Text) (r : Around) (image script : Text) (limits : Limits) (kept : Option SessionView) where
+  module _ (start : State) (session : SessionView) (good : IsAccepted (r.files image) limits) (named : Renamed (first_state r.files image script limits) start) where
     -- all answers were put
-    abbrev puts_all : (lines : List Text) → AnsweredAll start session files lines before after → PutsAll files image script limits lines before after
-    puts_all lines all = record { accepted = good; answering = record { answers = all.answers; start = start; named = named; last = all.last; run = all.run; same_files = all.at.same_files }; put = all.put }
+    abbrev puts_all : (lines : List Text) → AnsweredAll start session r.files_now lines r.before r.after → PutsAll r.files r.files_now image script limits lines r.before r.after
+    puts_all lines all = record { accepted = good; answering = record { answers = all.answers; start = start; named = named; last = all.last; run = all.run }; same_files = all.at.same_files; put = all.put }
 
     -- a part of them was put
-    abbrev puts_part : AnsweredPart start session files (lines_of (files script)) before after → PutsPart files image script limits before after
+    abbrev puts_part : AnsweredPart start session r.files_now (lines_of (r.files script)) r.before r.after → PutsPart r.files r.files_now image script limits r.before r.after
     puts_part part = record {
       accepted = good;
       lines = part.done;
       others = part.others;
       first = part.first_lines;
-      answering = record { answers = part.answers; start = start; named = named; last = part.last; run = part.run; same_files = part.at.same_files };
+      answering = record { answers = part.answers; start = start; named = named; last = part.last; run = part.run };
+      same_files = part.at.same_files;
       put = part.put;
     }
 
+    -- those of the lines before a save that met a fault were put
+    abbrev puts_to_save : AnsweredToSave start session r.files_now (lines_of (r.files script)) r.before r.after → PutsToSave r.files r.files_now image script limits r.before r.after
+    puts_to_save to = record {
+      accepted = good;
+      lines = to.done;
+      line = to.line;
+      others = to.others;
+      first = to.first_lines;
+      answering = record { answers = to.answers; start = start; named = named; last = to.last; run = to.run };
+      stops = to.stops;
+      put = to.put;
+    }
+
     -- the outcome of a script, by what stopped it
-    script_outcome : (r : Result (Unit {0}) Stop) → IsReplay words image script limits → ScriptRun start session files (files script) before after r → ((last : State) → IsStateOf session last → IsKept kept (files image) limits false last)
-        → Outcome words files before after kept (status_of r)
-    script_outcome (Ok x) is run stays = done is run.0 (puts_all (lines_of (files script)) run.1) (stays run.1.last run.1.at.state)
-    script_outcome (Err stop.ReadFault) is run stays = unread_script is (record { size = run.0; whole = puts_all (ended_lines_of (take run.0 (files script))) run.1 }) (stays run.1.last run.1.at.state)
-    script_outcome (Err stop.WriteFault) is run stays = cut_short (in_answers is (puts_part run) (stays run.last run.at.state))
-    script_outcome (Err stop.Memory) is run stays = no_memory (in_answers is (puts_part run) (stays run.last run.at.state))
-    script_outcome (Err stop.TooLong) is run stays = too_long is run.0 (puts_all (ended_lines_of (take most_script_bytes (files script))) run.1) (stays run.1.last run.1.at.state)
+    script_outcome : (did : Result (Unit {0}) Stop) (reads reads_now : ℕ) → IsReplay words image script limits → StopCause reads reads_now r.writes r.writes_now r.puts r.puts_now did → EndsBy false session.ended did
+        → ((ended : Bool) (last : State) → session.ended ≡ ended → IsStateOf session last → IsKept kept (r.files image) limits ended last) → ScriptRun start session r.files_now (r.files script) r.before r.after did → Outcome words r kept (status_of did)
+    script_outcome (Ok x) reads reads_now is cause ends stays run = done is run.0 (puts_all (lines_of (r.files script)) run.1) (stays false run.1.last ends run.1.at.state)
+    script_outcome (Err (stop.Script file.Failed)) reads reads_now is cause ends stays run =
+        unread_script is (record { size = run.0; whole = puts_all (ended_lines_of (take run.0 (r.files script))) run.1 }) (stays false run.1.last ends run.1.at.state)
+    script_outcome (Err (stop.Script file.Memory)) reads reads_now is cause ends stays run = no_memory (in_answers is (puts_part run) (stays false run.last ends run.at.state))
+    script_outcome (Err (stop.Line fault.Read)) reads reads_now is cause ends stays run = absurd cause
+    script_outcome (Err (stop.Line fault.Write)) reads reads_now is cause ends stays run = unsaved cause.1.0.1 (at_save is (puts_to_save run) (stays true run.last ends run.is))
+    script_outcome (Err (stop.Line fault.Memory)) reads reads_now is cause ends stays run = no_memory_to_save (at_save is (puts_to_save run) (stays true run.last ends run.is))
+    script_outcome (Err (stop.Put sink.Failed)) reads reads_now is cause ends stays run = cut_short cause.1.1.1 (in_answers is (puts_part run) (stays false run.last ends run.at.state))
+    script_outcome (Err (stop.Put sink.Memory)) reads reads_now is cause ends stays run = no_memory (in_answers is (puts_part run) (stays false run.last ends run.at.state))
+    script_outcome (Err stop.TooLong) reads reads_now is cause ends stays run =
+        too_long is run.0 (puts_all (ended_lines_of (take most_script_bytes (r.files script))) run.1) (stays false run.1.last ends run.1.at.state)
 
-  module _ (none : kept ≡ None) where
+  module _ (none : kept ≡ None) (same : r.files_now ≡ r.files) where
     -- the line of a cause was put, or a part of it
-    put_refusal : (cause : Cause) (put : Result (Unit {0}) SinkFault) → IsReplay words image script limits → FirstCause (files image) limits cause → Puts (cause_line cause) (Some before) after put
-        → Outcome words files before after kept (put_status status.Refused put)
-    put_refusal cause (Ok x) is first bytes = refused cause is first bytes none
-    put_refusal cause (Err sink.Failed) is first bytes = cut_short (in_refusal cause is first bytes none)
-    put_refusal cause (Err sink.Memory) is first bytes = no_memory (in_refusal cause is first bytes none)
+    put_refusal : (cause : Cause) (put : Result (Unit {0}) SinkFault) → IsReplay words image script limits → FirstCause (r.files image) limits cause → Puts (cause_line cause) (Some r.before) r.after put → SinkCause r.puts r.puts_now put
+        → Outcome words r kept (put_status status.Refused put)
+    put_refusal cause (Ok x) is first bytes counts = refused cause is first bytes same none
+    put_refusal cause (Err sink.Failed) is first bytes counts = cut_short counts.1 (in_refusal cause is first bytes same none)
+    put_refusal cause (Err sink.Memory) is first bytes counts = no_memory (in_refusal cause is first bytes same none)
 
-    cause_outcome : (cause : Cause) (faults faults_now : ℕ) (now : Status) → IsReplay words image script limits → FirstCause (files image) limits cause → IsPutCause cause (Some before) after faults faults_now now → Outcome words files before after kept now
-    cause_outcome cause faults faults_now now is first put =
-        let O : Status → Type 0 = λ st. Outcome words files before after kept st in
-        subst O (sym put.status) (put_refusal cause put.put is first put.bytes)
+    cause_outcome : (cause : Cause) (now : Status) → IsReplay words image script limits → FirstCause (r.files image) limits cause → IsPutCause cause (Some r.before) r.after r.puts r.puts_now now → Outcome words r kept now
+    cause_outcome cause now is first put = subst (λ (st : Status). Outcome words r kept st) (sym put.status) (put_refusal cause put.put is first put.bytes put.cause)
 
-    refusal_outcome : (error : LoadError) (faults faults_now : ℕ) (now : Status) → IsReplay words image script limits → IsCauseOf (files image) limits error → IsRefusing error (Some before) after faults faults_now now → Outcome words files before after kept now
-    refusal_outcome (errors.Short n) faults faults_now now is cause put = cause_outcome (Short n) faults faults_now now is cause put
-    refusal_outcome (errors.Format n) faults faults_now now is cause put = cause_outcome (Format n) faults faults_now now is cause put
-    refusal_outcome (errors.HeaderSize n) faults faults_now now is cause put = cause_outcome (HeaderSize n) faults faults_now now is cause put
-    refusal_outcome (errors.Base n) faults faults_now now is cause put = cause_outcome (Base n) faults faults_now now is cause put
-    refusal_outcome (errors.Large n) faults faults_now now is cause put = cause_outcome (Large n) faults faults_now now is cause put
-    refusal_outcome (errors.Segment n) faults faults_now now is cause put = cause_outcome (Segment n) faults faults_now now is cause put
-    refusal_outcome (errors.End n) faults faults_now now is cause put = cause_outcome (End n) faults faults_now now is cause put
-    refusal_outcome (errors.Object n) faults faults_now now is cause put = cause_outcome (Object n) faults faults_now now is cause put
-    refusal_outcome (errors.Roots n) faults faults_now now is cause put = cause_outcome (Roots n) faults faults_now now is cause put
-    refusal_outcome (errors.Forwarder n) faults faults_now now is cause put = cause_outcome (Forwarder n) faults faults_now now is cause put
-    refusal_outcome (errors.Class n) faults faults_now now is cause put = cause_outcome (Class n) faults faults_now now is cause put
-    refusal_outcome (errors.Slot n) faults faults_now now is cause put = cause_outcome (Slot n) faults faults_now now is cause put
-    refusal_outcome (errors.Special n) faults faults_now now is cause put = cause_outcome (Special n) faults faults_now now is cause put
-    refusal_outcome errors.ReadFault faults faults_now now is cause put =
-        let O : Status → Type 0 = λ st. Outcome words files before after kept st in
-        subst O (sym put.0) (unread_image is put.1.bytes none)
-    refusal_outcome errors.Memory faults faults_now now is cause put =
-        let O : Status → Type 0 = λ st. Outcome words files before after kept st in
-        subst O (sym put.0) (no_memory_for_image is put.1.bytes none)
+    refusal_outcome : (error : LoadError) (now : Status) → IsReplay words image script limits → IsCauseOf (r.files image) limits error → IsRefusing error (Some r.before) r.after r.puts r.puts_now now → Outcome words r kept now
+    refusal_outcome (errors.Short n) now is cause put = cause_outcome (Short n) now is cause put
+    refusal_outcome (errors.Format n) now is cause put = cause_outcome (Format n) now is cause put
+    refusal_outcome (errors.HeaderSize n) now is cause put = cause_outcome (HeaderSize n) now is cause put
+    refusal_outcome (errors.Base n) now is cause put = cause_outcome (Base n) now is cause put
+    refusal_outcome (errors.Large n) now is cause put = cause_outcome (Large n) now is cause put
+    refusal_outcome (errors.Segment n) now is cause put = cause_outcome (Segment n) now is cause put
+    refusal_outcome (errors.End n) now is cause put = cause_outcome (End n) now is cause put
+    refusal_outcome (errors.Object n) now is cause put = cause_outcome (Object n) now is cause put
+    refusal_outcome (errors.Roots n) now is cause put = cause_outcome (Roots n) now is cause put
+    refusal_outcome (errors.Forwarder n) now is cause put = cause_outcome (Forwarder n) now is cause put
+    refusal_outcome (errors.Class n) now is cause put = cause_outcome (Class n) now is cause put
+    refusal_outcome (errors.Slot n) now is cause put = cause_outcome (Slot n) now is cause put
+    refusal_outcome (errors.Special n) now is cause put = cause_outcome (Special n) now is cause put
+    refusal_outcome errors.ReadFault now is cause put = subst (λ (st : Status). Outcome words r kept st) (sym put.0) (unread_image is put.1.bytes same none)
+    refusal_outcome errors.Memory now is cause put = subst (λ (st : Status). Outcome words r kept st) (sym put.0) (no_memory_for_image is put.1.bytes same none)
 
--- the outcome of a session of the image, where the bytes are told
-pub replayed : (told later : Option FileMap) (so_far after : Option (List ℕ)) (words : List Text) (image script : Text) (limits : Limits) (s t : SessionView) (kept : Option SessionView) (r : Result (Unit {0}) Stop) (now : Status) → later ≡ told
-    → IsReplay words image script limits → IfSome told (λ store. IsAccepted (store image) limits × Stands s.heap (loaded_graph (store image)) (loaded_room (store image) limits)) → (s.script ≡ script) × (s.ended ≡ false) → s.heap.limits ≡ limits → s.heap.phase ≡ Whole
-    → IfSome told (λ store. s.heap.carried ≡ take header_bytes (store image)) → SameRun s t → kept ≡ Some t → Ran later so_far s t script after r → now ≡ status_of r
-    → IfSome told (λ store. IfSome so_far (λ before. Outcome words store before after kept now))
-replayed None later so_far after words image script limits s t kept r now same is loaded begins asked whole header keeps held run ends = tt
-replayed (Some told) None so_far after words image script limits s t kept r now same is loaded begins asked whole header keeps held run ends = cc
-replayed (Some told) (Some later) None after words image script limits s t kept r now same is loaded begins asked whole header keeps held run ends = tt
-replayed (Some told) (Some later) (Some before) after words image script limits s t kept r now same is loaded begins asked whole header keeps held run ends =
-    let one : later ≡ told = cc in
-    let start : State = over s.heap (first_state told image script limits) in
-    let R : FileMap → Type 0 = λ store. (first : State) → IsAt s store first → ScriptRun first t store (store script) before after r in
-    let here : ScriptRun start t told (told script) before after r = subst R one run start (record { state = record { heap = refl; script = sym begins.0 }; same_files = refl }) in
-    let stays : (last : State) → IsStateOf t last → IsKept kept (told image) limits false last = λ last at.
-    record { session = t; is = held; ends = keeps.ended ∙ begins.1; state = at; carried = keeps.carried ∙ header; same_limits = keeps.limits ∙ asked; unmarked = keeps.phase ∙ whole } in
-    let O : Status → Type 0 = λ st. Outcome words told before after kept st in
-    subst O (sym ends) (script_outcome words told image script limits before after kept start t loaded.0 (started told image script limits s.heap loaded.1) r is here stays)
+-- the usage line was put, or a part of it
+put_usage : (words : List Text) (r : Around) (kept : Option SessionView) (put : Result (Unit {0}) SinkFault) → kept ≡ None → r.files_now ≡ r.files → IsMisused words → Puts usage_line (Some r.before) r.after put → SinkCause r.puts r.puts_now put
+    → Outcome words r kept (put_status status.Usage put)
+put_usage words r kept (Ok x) none same is bytes counts = usage is bytes same none
+put_usage words r kept (Err sink.Failed) none same is bytes counts = cut_short counts.1 (in_usage is bytes same none)
+put_usage words r kept (Err sink.Memory) none same is bytes counts = no_memory (in_usage is bytes same none)
 
--- the outcome of an image that is not loaded
-pub not_loaded : (told : Option FileMap) (so_far after : Option (List ℕ)) (words : List Text) (image script : Text) (limits : Limits) (kept : Option SessionView) (error : LoadError) (faults faults_now : ℕ) (now : Status) → kept ≡ None → IsReplay words image script limits
-    → IfSome told (λ store. IsCauseOf (store image) limits error) → IsRefusing error so_far after faults faults_now now → IfSome told (λ store. IfSome so_far (λ before. Outcome words store before after kept now))
-not_loaded None so_far after words image script limits kept error faults faults_now now none is cause put = tt
-not_loaded (Some store) None after words image script limits kept error faults faults_now now none is cause put = tt
-not_loaded (Some store) (Some before) after words image script limits kept error faults faults_now now none is cause put = refusal_outcome words store image script limits before after kept none error faults faults_now now is cause put
+-- the outcome over these files, where the sink tells its bytes
+abbrev pub Came : List Text → Option (List ℕ) → Option (List ℕ) → ℕ → ℕ → ℕ → ℕ → Option SessionView → Status → Files → Files → Type 0
+Came words so_far after writes writes_now puts puts_now kept now store store_now = IfSome so_far (λ before. Outcome words (record {
+  files = store;
+  files_now = store_now;
+  before = before;
+  after = after;
+  writes = writes;
+  writes_now = writes_now;
+  puts = puts;
+  puts_now = puts_now;
+}) kept now)
+
+-- what is told of an option is so of what it has
+of_some : {X : Type 0} (o : Option X) (x : X) (P : X → Type 0) → o ≡ Some x → IfSome o P → P x
+of_some o x P is told = subst (λ p. IfSome p P) is told
+
+module _ (words : List Text) (image script : Text) (limits : Limits) (is : IsReplay words image script limits) where
+  -- a session of the image
+  module _ (s t : SessionView) (store : Files) (good : IsAccepted (store image) limits) (stands : Stands s.heap (loaded_graph (store image)) (loaded_room (store image) limits)) (header : s.heap.carried ≡ take header_bytes (store image))
+      (runs : s.script ≡ script) (asked : s.heap.limits ≡ limits) (whole : s.heap.phase ≡ Whole) (keeps : SameRun s t) where
+    ran : (did : Result (Unit {0}) Stop) (so_far after : Option (List ℕ)) (reads reads_now writes writes_now puts puts_now : ℕ) (kept : Option SessionView) (now : Status) (store_now : Files) → StopCause reads reads_now writes writes_now puts puts_now did → EndsBy false t.ended did
+        → kept ≡ Some t → now ≡ status_of did → Ran so_far s t script after did store store_now → Came words so_far after writes writes_now puts puts_now kept now store store_now
+    ran did None after reads reads_now writes writes_now puts puts_now kept now store_now cause ends held at run = tt
+    ran did (Some before) after reads reads_now writes writes_now puts puts_now kept now store_now cause ends held at run =
+        let r : Around = record { files = store; files_now = store_now; before = before; after = after; writes = writes; writes_now = writes_now; puts = puts; puts_now = puts_now } in
+        let start : State = over s.heap (first_state store image script limits) in
+        let stays : (ended : Bool) (last : State) → t.ended ≡ ended → IsStateOf t last → IsKept kept (store image) limits ended last = λ ended last ends here.
+        record { session = t; is = held; ends = ends; state = here; carried = keeps.carried ∙ header; same_limits = keeps.limits ∙ asked; unmarked = keeps.phase ∙ whole } in
+        subst (λ (st : Status). Outcome words r kept st) (sym at)
+        (script_outcome words r image script limits kept start t good (started store image script limits s.heap stands) did reads reads_now is cause ends stays
+        (run start (record { state = record { heap = refl; script = sym runs }; same_files = refl })))
+
+  -- the outcome of a session of the image
+  pub replayed : (told later told_now : Option Files) (so_far after : Option (List ℕ)) (s t : SessionView) (kept : Option SessionView) (did : Result (Unit {0}) Stop) (now : Status) (reads reads_now writes mid writes_now puts puts_now : ℕ)
+      → later ≡ told → mid ≡ writes → IfSome told (λ store. IsAccepted (store image) limits × Stands s.heap (loaded_graph (store image)) (loaded_room (store image) limits)) → (s.script ≡ script) × (s.ended ≡ false)
+      → s.heap.limits ≡ limits → s.heap.phase ≡ Whole → IfSome told (λ store. s.heap.carried ≡ take header_bytes (store image)) → SameRun s t → StopCause reads reads_now mid writes_now puts puts_now did → EndsBy false t.ended did
+      → kept ≡ Some t → now ≡ status_of did → WhereTold later told_now (Ran so_far s t script after did) → WhereTold told told_now (Came words so_far after writes writes_now puts puts_now kept now)
+  replayed told later told_now so_far after s t kept did now reads reads_now writes mid writes_now puts puts_now same still loaded begins asked whole header keeps cause ends held at run =
+      told_as told told_now (Ran so_far s t script after did) (Came words so_far after writes writes_now puts puts_now kept now) (λ store store_now tells ran_so.
+      let good = of_some told store (λ files. IsAccepted (files image) limits × Stands s.heap (loaded_graph (files image)) (loaded_room (files image) limits)) tells loaded in
+      let first = of_some told store (λ files. s.heap.carried ≡ take header_bytes (files image)) tells header in
+      ran s t store good.0 good.1 first begins.0 asked whole keeps did so_far after reads reads_now writes writes_now puts puts_now kept now store_now
+      (subst (λ n. StopCause reads reads_now n writes_now puts puts_now did) still cause) ends held at ran_so)
+      (subst (λ (o : Option Files). WhereTold o told_now (Ran so_far s t script after did)) same run)
+
+  -- the outcome of an image that is not loaded
+  refused_here : (so_far after : Option (List ℕ)) (kept : Option SessionView) (error : LoadError) (writes writes_now puts puts_now : ℕ) (now : Status) (store : Files) → kept ≡ None → IsCauseOf (store image) limits error
+      → IsRefusing error so_far after puts puts_now now → Came words so_far after writes writes_now puts puts_now kept now store store
+  refused_here None after kept error writes writes_now puts puts_now now store none cause put = tt
+  refused_here (Some before) after kept error writes writes_now puts puts_now now store none cause put =
+      refusal_outcome words (record { files = store; files_now = store; before = before; after = after; writes = writes; writes_now = writes_now; puts = puts; puts_now = puts_now }) image script limits kept none refl error now is cause put
+
+  pub not_loaded : (told told_now : Option Files) (so_far after : Option (List ℕ)) (kept : Option SessionView) (error : LoadError) (writes writes_now puts puts_now : ℕ) (now : Status) → told_now ≡ told → kept ≡ None
+      → IfSome told (λ store. IsCauseOf (store image) limits error) → IsRefusing error so_far after puts puts_now now → WhereTold told told_now (Came words so_far after writes writes_now puts puts_now kept now)
+  not_loaded told told_now so_far after kept error writes writes_now puts puts_now now same none cause put =
+      subst (λ (o : Option Files). WhereTold told o (Came words so_far after writes writes_now puts puts_now kept now)) (sym same)
+      (told_still told (Came words so_far after writes writes_now puts puts_now kept now) (λ store tells.
+      refused_here so_far after kept error writes writes_now puts puts_now now store none (of_some told store (λ files. IsCauseOf (files image) limits error) tells cause) put))
 
 -- the outcome of words in no known form
-put_usage : (words : List Text) (files : Files) (before : List ℕ) (after : Option (List ℕ)) (kept : Option SessionView) (put : Result (Unit {0}) SinkFault) → kept ≡ None → IsMisused words → Puts usage_line (Some before) after put
-    → Outcome words files before after kept (put_status status.Usage put)
-put_usage words files before after kept (Ok x) none is bytes = usage is bytes none
-put_usage words files before after kept (Err sink.Failed) none is bytes = cut_short (in_usage is bytes none)
-put_usage words files before after kept (Err sink.Memory) none is bytes = no_memory (in_usage is bytes none)
+misused_here : (so_far after : Option (List ℕ)) (words : List Text) (kept : Option SessionView) (writes writes_now puts puts_now : ℕ) (now : Status) (store : Files) → kept ≡ None → IsMisused words → IsPut usage_line so_far after puts puts_now status.Usage now
+    → Came words so_far after writes writes_now puts puts_now kept now store store
+misused_here None after words kept writes writes_now puts puts_now now store none is put = tt
+misused_here (Some before) after words kept writes writes_now puts puts_now now store none is put =
+    let r : Around = record { files = store; files_now = store; before = before; after = after; writes = writes; writes_now = writes_now; puts = puts; puts_now = puts_now } in
+    subst (λ (st : Status). Outcome words r kept st) (sym put.status) (put_usage words r kept put.put none refl is put.bytes put.cause)
 
-pub misused : (told : Option FileMap) (so_far after : Option (List ℕ)) (words : List Text) (kept : Option SessionView) (faults faults_now : ℕ) (now : Status) → kept ≡ None → IsMisused words → IsPut usage_line so_far after faults faults_now status.Usage now
-    → IfSome told (λ store. IfSome so_far (λ before. Outcome words store before after kept now))
-misused None so_far after words kept faults faults_now now none is put = tt
-misused (Some store) None after words kept faults faults_now now none is put = tt
-misused (Some store) (Some before) after words kept faults faults_now now none is put =
-    let O : Status → Type 0 = λ st. Outcome words store before after kept st in
-    subst O (sym put.status) (put_usage words store before after kept put.put none is put.bytes)
-
--- no session is kept where a line was put in place of answers
-module _ (words : List Text) (kept : Option SessionView) (none : kept ≡ None) where
-  left_put : (whole : Status) (put : Result (Unit {0}) SinkFault) → IsLeft words whole kept → IsLeft words (put_status whole put) kept
-  left_put whole (Ok x) left = left
-  left_put whole (Err sink.Failed) left = λ misused. none
-  left_put whole (Err sink.Memory) left = λ misused. none
-
-  pub left_line : (whole now : Status) (line : Text) (before after : Option (List ℕ)) (faults faults_now : ℕ) → IsLeft words whole kept → IsPut line before after faults faults_now whole now → IsLeft words now kept
-  left_line whole now line before after faults faults_now left put =
-      let L : Status → Type 0 = λ st. IsLeft words st kept in
-      subst L (sym put.status) (left_put whole put.put left)
-
--- the status of an image that is not loaded: by the put of the line of its cause, or by a fault where there is no line
-data RefusedWith (now : Status) : Type 0 where
-  by_line : (put : Result (Unit {0}) SinkFault) → now ≡ put_status status.Refused put → RefusedWith now
-  by_read : now ≡ status.ReadFault → RefusedWith now
-  by_memory : now ≡ status.Memory → RefusedWith now
-
-module _ (before after : Option (List ℕ)) (faults faults_now : ℕ) (now : Status) where
-  refused_with : (error : LoadError) → IsRefusing error before after faults faults_now now → RefusedWith now
-  refused_with (errors.Short n) put = by_line put.put put.status
-  refused_with (errors.Format n) put = by_line put.put put.status
-  refused_with (errors.HeaderSize n) put = by_line put.put put.status
-  refused_with (errors.Base n) put = by_line put.put put.status
-  refused_with (errors.Large n) put = by_line put.put put.status
-  refused_with (errors.Segment n) put = by_line put.put put.status
-  refused_with (errors.End n) put = by_line put.put put.status
-  refused_with (errors.Object n) put = by_line put.put put.status
-  refused_with (errors.Roots n) put = by_line put.put put.status
-  refused_with (errors.Forwarder n) put = by_line put.put put.status
-  refused_with (errors.Class n) put = by_line put.put put.status
-  refused_with (errors.Slot n) put = by_line put.put put.status
-  refused_with (errors.Special n) put = by_line put.put put.status
-  refused_with errors.ReadFault put = by_read put.0
-  refused_with errors.Memory put = by_memory put.0
-
--- no session is kept where the image is not loaded
-module _ (words : List Text) (kept : Option SessionView) (none : kept ≡ None) where
-  left_with : (now : Status) → RefusedWith now → IsLeft words now kept
-  left_with now (by_line put is) = let L : Status → Type 0 = λ st. IsLeft words st kept in subst L (sym is) (left_put words kept none status.Refused put none)
-  left_with now (by_read is) = let L : Status → Type 0 = λ st. IsLeft words st kept in subst L (sym is) (λ misused. none)
-  left_with now (by_memory is) = let L : Status → Type 0 = λ st. IsLeft words st kept in subst L (sym is) (λ misused. none)
-
-  pub left_refusal : (error : LoadError) (before after : Option (List ℕ)) (faults faults_now : ℕ) (now : Status) → IsRefusing error before after faults faults_now now → IsLeft words now kept
-  left_refusal error before after faults faults_now now put = left_with now (refused_with before after faults faults_now now error put)
-
--- words that are replayed are in a known form
-module _ (words : List Text) (image script : Text) (limits : Limits) (is : IsReplay words image script limits) where
-  judged_put : (put : Result (Unit {0}) SinkFault) → Judges words (put_status status.Refused put)
-  judged_put (Ok x) = λ misused. misused image script limits is
-  judged_put (Err sink.Failed) = tt
-  judged_put (Err sink.Memory) = tt
-
-  judged_with : (now : Status) → RefusedWith now → Judges words now
-  judged_with now (by_line put ends) = subst (Judges words) (sym ends) (judged_put put)
-  judged_with now (by_read ends) = subst (Judges words) (sym ends) (λ misused. misused image script limits is)
-  judged_with now (by_memory ends) = subst (Judges words) (sym ends) tt
-
-  pub judged_refusal : (error : LoadError) (before after : Option (List ℕ)) (faults faults_now : ℕ) (now : Status) → IsRefusing error before after faults faults_now now → Judges words now
-  judged_refusal error before after faults faults_now now put = judged_with now (refused_with before after faults faults_now now error put)
-
-  pub judged_stop : (why : Stop) (now : Status) → now ≡ stop_status why → Judges words now
-  judged_stop stop.ReadFault now ends = subst (Judges words) (sym ends) (λ misused. misused image script limits is)
-  judged_stop stop.WriteFault now ends = subst (Judges words) (sym ends) tt
-  judged_stop stop.Memory now ends = subst (Judges words) (sym ends) tt
-  judged_stop stop.TooLong now ends = subst (Judges words) (sym ends) (λ misused. misused image script limits is)
-
-  -- a run that was stopped keeps a session
-  left_stopped : (why : Stop) (kept : Option SessionView) → IsOpen kept → IsLeft words (stop_status why) kept
-  left_stopped stop.ReadFault kept left = λ misused. absurd (misused image script limits is)
-  left_stopped stop.WriteFault kept left = λ misused. absurd (misused image script limits is)
-  left_stopped stop.Memory kept left = λ misused. absurd (misused image script limits is)
-  left_stopped stop.TooLong kept left = left
-
-  pub left_stop : (why : Stop) (now : Status) (kept : Option SessionView) → now ≡ stop_status why → IsOpen kept → IsLeft words now kept
-  left_stop why now kept ends left =
-      let L : Status → Type 0 = λ st. IsLeft words st kept in
-      subst L (sym ends) (left_stopped why kept left)
+pub misused : (told : Option Files) (so_far after : Option (List ℕ)) (words : List Text) (kept : Option SessionView) (writes writes_now puts puts_now : ℕ) (now : Status) → kept ≡ None → IsMisused words → IsPut usage_line so_far after puts puts_now status.Usage now
+    → WhereTold told told (Came words so_far after writes writes_now puts puts_now kept now)
+misused told so_far after words kept writes writes_now puts puts_now now none is put =
+    told_still told (Came words so_far after writes writes_now puts puts_now kept now) (λ store tells. misused_here so_far after words kept writes writes_now puts puts_now now store none is put)

@@ -25,10 +25,6 @@ insert-again m h x is = same_map handles_total exact_handles _ _ (λ q. get-inse
 bound_again : (g : Graph) (k : ℕ) (h : List ℕ) (x : Value) → held g k h ≡ Some x → bind g k h x ≡ g
 bound_again g k h x is = λ i. record g { handles = insert-again g.handles (k, h) x is i }
 
--- nothing is rewritten
-pub settles_nothing : (v : View) → Settles v v
-settles_nothing v = record { graph = refl; rest = refl }
-
 -- a handle is rewritten to a word of the same value
 rebound : (v new : View) (k : ℕ) (h : List ℕ) (word end : ℕ) → get v.handles (k, h) ≡ Some word → value_in v end ≡ value_in v word → new ≡ record v { handles = insert v.handles (k, h) end } → Settles v new
 rebound v new k h word end is same moved = record {
@@ -43,10 +39,3 @@ resettled v new k h word end (Ok x) is same moved full = rebound v new k h word 
 resettled v new k h word end (Err e) is same moved full =
     let none : get v.handles (k, h) ≡ None = full refl in
     cc
-
--- one after another
-pub settles_on : (a b c : View) → Settles a b → Settles b c → Settles a c
-settles_on a b c one two = record {
-  graph = two.graph ∙ one.graph;
-  rest = two.rest ∙ (λ i. record (one.rest i) { handles = c.handles });
-}

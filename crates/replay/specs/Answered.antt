@@ -1,5 +1,5 @@
 -- The lines of a script that were answered so far.
-use Rattle.std.specs.Prelude.{◌≡◌, ℕ, ◌≤◌, ◌<◌, ◌+◌, List, ◌++◌, length, take, Option, Some, Result, Ok, Err}
+use Rattle.std.specs.Prelude.{◌≡◌, ℕ, ◌≤◌, ◌<◌, ◌+◌, List, ◌∷◌, ◌++◌, length, take, Option, Some, Result, Ok, Err}
 use Rattle.spur_io.specs.declared.sink.SinkFault.{SinkFault}
 use Rattle.spur_io.specs.Store.{Puts}
 use Rattle.spur_graph.specs.declared.answer.Answer.{Answer}
@@ -8,7 +8,8 @@ use Rattle.spur_graph.specs.State.{State, Files}
 use Rattle.spur_graph.specs.Step.{Step, Run, longest_line}
 use Rattle.spur_graph.specs.Lines.{lines_of, ended_lines_of, open_line_of}
 use Rattle.spur_graph.specs.Text.{answer_line}
-use Rattle.replay.specs.Sessions.{SessionView, IsAt, StandsFor}
+use Rattle.spur_io.specs.declared.files.FileFault.TheVariants as file
+use Rattle.replay.specs.Sessions.{SessionView, IsStateOf, IsAt, StandsFor, StopsAtSave}
 use Rattle.replay.specs.Runs.{answers_text, PutsFront, most_script_bytes}
 use Rattle.replay.specs.declared.runs.Stop.{Stop}
 use Rattle.replay.specs.declared.runs.Stop.TheVariants as stop
@@ -85,10 +86,25 @@ AnswersEnd old files new files_now kept so_far after = (first : State) (text : T
 abbrev pub CutsEnd : SessionView → Files → SessionView → Files → List ℕ → Option (List ℕ) → Option (List ℕ) → Type 0
 CutsEnd old files new files_now kept so_far after = (first : State) (text : Text) (before : List ℕ) → AnsweredBy old files first text kept before so_far → AnsweredPart first new files_now (lines_of text) before after
 
--- what was answered of a script and the session that it led to, by what stopped it
+-- some first lines were answered and the texts of their answers were put, and the next line is a save that met a fault. The session is in the state before
+-- that line, and the files are as it left them
+pub record AnsweredToSave (first : State) (session : SessionView) (files : Files) (lines : List Text) (before : List ℕ) (after : Option (List ℕ)) : Type 0 where
+  pub done : List Text
+  pub line : Text
+  pub others : List Text
+  pub first_lines : done ++ line ∷ others ≡ lines
+  pub answers : List Answer
+  pub last : State
+  pub run : Run first done answers last
+  pub is : IsStateOf session last
+  pub stops : StopsAtSave last line files
+  pub put : after ≡ Some (before ++ answers_text answers)
+
+-- what was answered of a script, the session that it led to and the files then, by what stopped it
 abbrev pub ScriptRun : State → SessionView → Files → Text → List ℕ → Option (List ℕ) → Result (Unit {0}) Stop → Type 0
 ScriptRun first session files text before after (Ok x) = (length text ≤ most_script_bytes) × AnsweredAll first session files (lines_of text) before after
-ScriptRun first session files text before after (Err stop.ReadFault) = (size : ℕ) × AnsweredAll first session files (ended_lines_of (take size text)) before after
-ScriptRun first session files text before after (Err stop.WriteFault) = AnsweredPart first session files (lines_of text) before after
-ScriptRun first session files text before after (Err stop.Memory) = AnsweredPart first session files (lines_of text) before after
+ScriptRun first session files text before after (Err (stop.Script file.Failed)) = (size : ℕ) × AnsweredAll first session files (ended_lines_of (take size text)) before after
+ScriptRun first session files text before after (Err (stop.Script file.Memory)) = AnsweredPart first session files (lines_of text) before after
+ScriptRun first session files text before after (Err (stop.Line f)) = AnsweredToSave first session files (lines_of text) before after
+ScriptRun first session files text before after (Err (stop.Put f)) = AnsweredPart first session files (lines_of text) before after
 ScriptRun first session files text before after (Err stop.TooLong) = (most_script_bytes < length text) × AnsweredAll first session files (ended_lines_of (take most_script_bytes text)) before after

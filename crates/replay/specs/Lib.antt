@@ -3,4 +3,5 @@ pub mod Commands
 pub mod Runs
 pub mod Answered
 pub mod Stops
+pub mod LineRuns
 pub mod Writes

@@ -1,6 +1,5 @@
 -- What stops a run, and what is put in place of answers.
 use Rattle.std.specs.Prelude.{◌≡◌, ℕ, List, Option, Result, Ok, Err}
-use Rattle.spur_io.specs.declared.files.FileFault.{FileFault}
 use Rattle.spur_io.specs.declared.files.FileFault.TheVariants as file
 use Rattle.spur_io.specs.declared.sink.SinkFault.{SinkFault}
 use Rattle.spur_io.specs.declared.sink.SinkFault.TheVariants as sink
@@ -10,26 +9,21 @@ use Rattle.spur_graph.specs.Bytes.{Text}
 use Rattle.spur_graph.specs.ImageCauses.{Cause, cause_line, Short, Format, HeaderSize, Base, Large, Segment, End, Object, Roots, Forwarder, Class, Slot, Special}
 use Rattle.image_file.specs.declared.error.LoadError.{LoadError}
 use Rattle.image_file.specs.declared.error.LoadError.TheVariants as errors
+use Rattle.replay.specs.declared.session.Fault.TheVariants as fault
 use Rattle.replay.specs.declared.runs.Stop.{Stop}
 use Rattle.replay.specs.declared.runs.Stop.TheVariants as stop
 use Rattle.replay.specs.declared.runs.Status.{Status}
 use Rattle.replay.specs.declared.runs.Status.TheVariants as status
 
--- why a refused read stops a run
-abbrev pub read_stop : FileFault → Stop
-read_stop file.Failed = stop.ReadFault
-read_stop file.Memory = stop.Memory
-
--- why a refused put stops a run
-abbrev pub put_stop : SinkFault → Stop
-put_stop sink.Failed = stop.WriteFault
-put_stop sink.Memory = stop.Memory
-
 -- the status of a run that was stopped
 abbrev pub stop_status : Stop → Status
-stop_status stop.ReadFault = status.ReadFault
-stop_status stop.WriteFault = status.WriteFault
-stop_status stop.Memory = status.Memory
+stop_status (stop.Script file.Failed) = status.ReadFault
+stop_status (stop.Script file.Memory) = status.Memory
+stop_status (stop.Line fault.Read) = status.ReadFault
+stop_status (stop.Line fault.Write) = status.WriteFault
+stop_status (stop.Line fault.Memory) = status.Memory
+stop_status (stop.Put sink.Failed) = status.WriteFault
+stop_status (stop.Put sink.Memory) = status.Memory
 stop_status stop.TooLong = status.TooLong
 
 -- the status of a run

@@ -1,8 +1,8 @@
 // What each command is answered.
-ghost use Rattle.std.specs.Prelude.{◌≡◌, IfOk, OnErr};
+ghost use Rattle.std.specs.Prelude.{◌≡◌, false, IfOk, OnErr};
 ghost use Rattle.std.specs.Result.{result_err};
 ghost use Rattle.spur_graph.specs.Form.{view};
-ghost use Rattle.replay.specs.Commands.{FirstRefusal, Obeys, Keeps, Same};
+ghost use Rattle.replay.specs.Commands.{FirstRefusal, Obeys, Keeps, Same, saves};
 ghost use Rattle.replay.specs.Writes.{Writes};
 
 use crate::changing::{exchange_objects, forward_object, pin_object, protect, unpin_object};
@@ -15,8 +15,9 @@ use immediates::{character, float_bits, small_int};
 use spur_graph::{Answer, Command, Refusal};
 use spur_heap::{Heap, Space};
 
-/// What a command is answered, or the first refusal that applies, which changes nothing.
+/// What a command is answered that touches no file, or the first refusal that applies, which changes nothing.
 fn carry_out(heap: &mut Heap, mutator: u8, command: &Command) -> Result<Answer, Refusal>
+    requires { saves (view command.now) ≡ false }
     ensures refusal { FirstRefusal heap.old mutator (view command.now) (result_err result) }
     ensures done { IfOk result (λ answer. Obeys heap.old mutator (view command.now) answer heap.new) }
     ensures words { Writes heap.old heap.new mutator (view command.now) }
@@ -60,14 +61,15 @@ fn carry_out(heap: &mut Heap, mutator: u8, command: &Command) -> Result<Answer, 
         | Command::Gc
         | Command::Mourn { .. }
         | Command::SegStore { .. }
-        | Command::SegLoad { .. }
-        | Command::Save { .. } => Err(Refusal::Unsupported),
+        | Command::SegLoad { .. } => Err(Refusal::Unsupported),
+        Command::Save { .. } => unreachable!(),
     }
 }
 
-/// What a command is answered, or the first refusal that applies, which changes neither graph nor room. The handles that it reads are rewritten first to
-/// where they lead, if anything was forwarded.
+/// What a command is answered that touches no file, or the first refusal that applies, which changes neither graph nor room. The handles that it reads are
+/// rewritten first to where they lead, if anything was forwarded.
 pub(crate) fn obey(heap: &mut Heap, mutator: u8, command: &Command) -> Result<Answer, Refusal>
+    requires { saves (view command.now) ≡ false }
     ensures refusal { FirstRefusal heap.old mutator (view command.now) (result_err result) }
     ensures done { IfOk result (λ answer. Obeys heap.old mutator (view command.now) answer heap.new) }
     ensures words { Writes heap.old heap.new mutator (view command.now) }

@@ -1,20 +1,20 @@
 // The top call: an image is loaded, and the lines of a script are answered while it is read.
-ghost use Rattle.std.specs.Prelude.{◌≡◌, ◌≤◌, ◌∷◌, ◌++◌, [], ℕ, List, codes, length, map, true, false, OnOk, OnErr, IfSome, IfNone, Some, None};
+ghost use Rattle.std.specs.Prelude.{◌≡◌, ◌≤◌, ◌∷◌, ◌++◌, [], ℕ, List, codes, length, map, true, false, IfSome, IfNone, Some, None};
 ghost use Rattle.std.specs.Fmt.{decimal};
 ghost use Rattle.std.specs.String.{string_bytes};
-ghost use Rattle.spur_io.specs.Causes.{SinkCause};
 ghost use Rattle.spur_graph.specs.Bytes.{Text};
-ghost use Rattle.spur_graph.specs.State.{State, Files};
+ghost use Rattle.spur_graph.specs.State.{State};
 ghost use Rattle.spur_graph.specs.Words.{number_in};
 ghost use Rattle.image_load.specs.Loaded.{AreLimits};
 ghost use Rattle.replay.specs.declared.runs.Status.TheVariants.{Refused};
-ghost use Rattle.replay.specs.Sessions.{SameRun, IsAt};
-ghost use Rattle.replay.specs.Runs.{IsPath, IsRoom, AsksRoom, IsCall, IsReplay, IsMisused, Outcome, Judges, Counts, IsLeft};
-ghost use Rattle.replay.specs.Answered.{AnswersBytes, AnswersBehind, AnswersPiece, CutsPiece, AnswersEnd, CutsEnd, ScriptRun};
+ghost use Rattle.replay.specs.Sessions.{SameRun, IsAt, WhereTold};
+ghost use Rattle.replay.specs.Runs.{IsPath, IsRoom, AsksRoom, IsCall, IsReplay, IsMisused, Outcome, Judges, Counts, KeepsFiles, IsLeft};
+ghost use Rattle.replay.specs.Answered.{ScriptRun};
+ghost use Rattle.replay.specs.LineRuns.{LineRun, BehindRun, PieceRun, EndRun, EndsBy, StopCause};
 ghost use Rattle.replay.specs.Stops.{IsPut, IsRefusing, status_of};
 
 use crate::lines::{OpenLine, cut_line};
-use crate::session::Session;
+use crate::session::{Fault, Session};
 use arrayvec::ArrayVec;
 use image_load::LoadError;
 use script_text::{number_of, write_answer};
@@ -54,7 +54,7 @@ pub enum Status {
     Refused,
     /// A read failed.
     ReadFault,
-    /// A put failed.
+    /// A put or a write to a file failed.
     WriteFault,
     /// There was no memory.
     Memory,
@@ -72,37 +72,43 @@ struct Request<'a> {
 /// Why the lines of a script are not all answered.
 #[derive(Clone, Copy, Debug, PartialEq, Eq)]
 pub(crate) enum Stop {
-    ReadFault,
-    WriteFault,
-    Memory,
+    /// A read of the script was refused.
+    Script(FileFault),
+    /// A line met a fault.
+    Line(Fault),
+    /// The put of an answer was refused.
+    Put(SinkFault),
+    /// The script has more than 2^32 bytes.
     TooLong,
 }
 
 impl From<FileFault> for Stop {
-    ghost use Rattle.spur_io.specs.declared.files.FileFault.{FileFault};
-    ghost use Rattle.replay.specs.Stops.{read_stop};
+    ghost use Rattle.replay.specs.declared.runs.Stop.TheVariants.{Script};
 
-    ghost from_gives = { λ f s. s ≡ read_stop f };
+    ghost from_gives = { λ f s. s ≡ Script f };
 
     fn from(fault: FileFault) -> Self {
-        match fault {
-            FileFault::Failed => Stop::ReadFault,
-            FileFault::Memory => Stop::Memory,
-        }
+        Stop::Script(fault)
+    }
+}
+
+impl From<Fault> for Stop {
+    ghost use Rattle.replay.specs.declared.runs.Stop.TheVariants.{Line};
+
+    ghost from_gives = { λ f s. s ≡ Line f };
+
+    fn from(fault: Fault) -> Self {
+        Stop::Line(fault)
     }
 }
 
 impl From<SinkFault> for Stop {
-    ghost use Rattle.spur_io.specs.declared.sink.SinkFault.{SinkFault};
-    ghost use Rattle.replay.specs.Stops.{put_stop};
+    ghost use Rattle.replay.specs.declared.runs.Stop.TheVariants.{Put};
 
-    ghost from_gives = { λ f s. s ≡ put_stop f };
+    ghost from_gives = { λ f s. s ≡ Put f };
 
     fn from(fault: SinkFault) -> Self {
-        match fault {
-            SinkFault::Failed => Stop::WriteFault,
-            SinkFault::Memory => Stop::Memory,
-        }
+        Stop::Put(fault)
     }
 }
 
@@ -114,69 +120,77 @@ impl From<Stop> for Status {
 
     fn from(stop: Stop) -> Self {
         match stop {
-            Stop::ReadFault => Status::ReadFault,
-            Stop::WriteFault => Status::WriteFault,
-            Stop::Memory => Status::Memory,
+            Stop::Script(FileFault::Failed) | Stop::Line(Fault::Read) => Status::ReadFault,
+            Stop::Line(Fault::Write) | Stop::Put(SinkFault::Failed) => Status::WriteFault,
+            Stop::Script(FileFault::Memory)
+            | Stop::Line(Fault::Memory)
+            | Stop::Put(SinkFault::Memory) => Status::Memory,
             Stop::TooLong => Status::TooLong,
         }
     }
 }
 
 /// Answers a line, writes the answer in place of what the text has, and puts it.
-fn answer_line<K: Sink>(
+fn answer_line<F: Files, K: Sink>(
     session: &mut Session,
+    files: &mut F,
     line: &[u8],
     text: &mut AnswerText,
     out: &mut K,
-) -> Result<(), SinkFault>
-    ensures answer { (files : Files) → AnswersBytes session.old files session.new files line.now (K.so_far out.old) (K.so_far out.new) result }
-    ensures cause { SinkCause (K.fault_count out.old) (K.fault_count out.new) result }
+) -> Result<(), Stop>
+    ensures answer { WhereTold (F.told files.old) (F.told files.new) (λ store store_now. LineRun session.old store session.new store_now line.now (K.so_far out.old) (K.so_far out.new) result) }
+    ensures cause { StopCause (F.read_count files.old) (F.read_count files.new) (F.write_count files.old) (F.write_count files.new) (K.fault_count out.old) (K.fault_count out.new) result }
+    ensures ends { EndsBy session.old.ended session.new.ended result }
     ensures run { SameRun session.old session.new }
 {
-    let answer = session.answer(line);
+    let answer = session.answer(files, line)?;
     text.clear();
     write_answer(&answer, text);
-    out.put(text.as_slice())
+    out.put(text.as_slice())?;
+    Ok(())
 }
 
 /// Answers the open line, whose last bytes these are.
-fn answer_ended<K: Sink>(
+fn answer_ended<F: Files, K: Sink>(
     session: &mut Session,
+    files: &mut F,
     open_line: &mut OpenLine,
     line: &[u8],
     text: &mut AnswerText,
     out: &mut K,
-) -> Result<(), SinkFault>
-    ensures answer { (files : Files) → AnswersBehind session.old files session.new files open_line.old line.now (K.so_far out.old) (K.so_far out.new) result }
+) -> Result<(), Stop>
+    ensures answer { WhereTold (F.told files.old) (F.told files.new) (λ store store_now. BehindRun session.old store session.new store_now open_line.old line.now (K.so_far out.old) (K.so_far out.new) result) }
     ensures none { open_line.new ≡ [] }
-    ensures cause { SinkCause (K.fault_count out.old) (K.fault_count out.new) result }
+    ensures cause { StopCause (F.read_count files.old) (F.read_count files.new) (F.write_count files.old) (F.write_count files.new) (K.fault_count out.old) (K.fault_count out.new) result }
+    ensures ends { EndsBy session.old.ended session.new.ended result }
     ensures run { SameRun session.old session.new }
 {
     if open_line.is_empty() {
-        return answer_line(session, line, text, out);
+        return answer_line(session, files, line, text, out);
     }
     open_line.extend(line);
-    let answered = answer_line(session, open_line.bytes(), text, out);
+    let answered = answer_line(session, files, open_line.bytes(), text, out);
     open_line.clear();
     answered
 }
 
 /// Answers each line that is ended in a piece of the script, and keeps the line behind them.
-fn answer_piece<K: Sink>(
+fn answer_piece<F: Files, K: Sink>(
     session: &mut Session,
+    files: &mut F,
     open_line: &mut OpenLine,
     piece: &[u8],
     text: &mut AnswerText,
     out: &mut K,
-) -> Result<(), SinkFault>
-    ensures answered { OnOk result ((files : Files) → AnswersPiece session.old files session.new files open_line.old open_line.new piece.now (K.so_far out.old) (K.so_far out.new)) }
-    ensures part { OnErr result ((files : Files) → CutsPiece session.old files session.new files open_line.old piece.now (K.so_far out.old) (K.so_far out.new)) }
-    ensures cause { SinkCause (K.fault_count out.old) (K.fault_count out.new) result }
+) -> Result<(), Stop>
+    ensures answered { WhereTold (F.told files.old) (F.told files.new) (λ store store_now. PieceRun session.old store session.new store_now open_line.old open_line.new piece.now (K.so_far out.old) (K.so_far out.new) result) }
+    ensures cause { StopCause (F.read_count files.old) (F.read_count files.new) (F.write_count files.old) (F.write_count files.new) (K.fault_count out.old) (K.fault_count out.new) result }
+    ensures ends { EndsBy session.old.ended session.new.ended result }
     ensures run { SameRun session.old session.new }
 {
     let mut rest = piece;
     'lines: while let Some((line, behind)) = cut_line(rest) {
-        answer_ended(session, open_line, line, text, out)?;
+        answer_ended(session, files, open_line, line, text, out)?;
         rest = behind;
     }
     open_line.extend(rest);
@@ -184,34 +198,38 @@ fn answer_piece<K: Sink>(
 }
 
 /// Answers the line at the script's end, if there are bytes behind the last line feed.
-fn answer_last<K: Sink>(
+fn answer_last<F: Files, K: Sink>(
     session: &mut Session,
+    files: &mut F,
     open_line: &OpenLine,
     text: &mut AnswerText,
     out: &mut K,
-) -> Result<(), SinkFault>
-    ensures answered { OnOk result ((files : Files) → AnswersEnd session.old files session.new files open_line.now (K.so_far out.old) (K.so_far out.new)) }
-    ensures part { OnErr result ((files : Files) → CutsEnd session.old files session.new files open_line.now (K.so_far out.old) (K.so_far out.new)) }
-    ensures cause { SinkCause (K.fault_count out.old) (K.fault_count out.new) result }
+) -> Result<(), Stop>
+    ensures answered { WhereTold (F.told files.old) (F.told files.new) (λ store store_now. EndRun session.old store session.new store_now open_line.now (K.so_far out.old) (K.so_far out.new) result) }
+    ensures cause { StopCause (F.read_count files.old) (F.read_count files.new) (F.write_count files.old) (F.write_count files.new) (K.fault_count out.old) (K.fault_count out.new) result }
+    ensures ends { EndsBy session.old.ended session.new.ended result }
     ensures run { SameRun session.old session.new }
 {
     if open_line.is_empty() {
         return Ok(());
     }
-    answer_line(session, open_line.bytes(), text, out)
+    answer_line(session, files, open_line.bytes(), text, out)
 }
 
-/// Answers the lines of a script while it is read. At most one byte past the limit is read.
+/// Answers the lines of a script while it is read. At most one byte past the limit is read. A line may save the heap under any name but the script's, so
+/// that what is read is the script as it was at the start.
 fn answer_script<F: Files, K: Sink>(
     session: &mut Session,
     files: &mut F,
     script: &str,
     out: &mut K,
 ) -> Result<(), Stop>
-    ensures outcome { IfSome (F.told files.old) (λ store. IfSome (K.so_far out.old) (λ before. (first : State) → IsAt session.old store first → ScriptRun first session.new store (store script.now) before (K.so_far out.new) result)) }
-    ensures counts { Counts (F.read_count files.old) (F.read_count files.new) (K.fault_count out.old) (K.fault_count out.new) (status_of result) }
-    ensures writes { F.write_count files.new ≡ F.write_count files.old }
-    ensures same { F.told files.new ≡ F.told files.old }
+    requires script { session.old.script ≡ script.now }
+    requires going { session.old.ended ≡ false }
+    ensures outcome { WhereTold (F.told files.old) (F.told files.new) (λ store store_now. IfSome (K.so_far out.old) (λ before. (first : State) → IsAt session.old store first → ScriptRun first session.new store_now (store script.now) before (K.so_far out.new) result)) }
+    ensures counts { Counts (F.read_count files.old) (F.read_count files.new) (F.write_count files.old) (F.write_count files.new) (K.fault_count out.old) (K.fault_count out.new) (status_of result) }
+    ensures cause { StopCause (F.read_count files.old) (F.read_count files.new) (F.write_count files.old) (F.write_count files.new) (K.fault_count out.old) (K.fault_count out.new) result }
+    ensures ends { EndsBy false session.new.ended result }
     ensures run { SameRun session.old session.new }
 {
     let mut open_line = OpenLine::new();
@@ -225,14 +243,20 @@ fn answer_script<F: Files, K: Sink>(
             break 'pieces;
         }
         let taken = (count as u64).min(MOST_SCRIPT_BYTES - at) as usize;
-        answer_piece(session, &mut open_line, &piece[..taken], &mut text, out)?;
+        answer_piece(
+            session,
+            files,
+            &mut open_line,
+            &piece[..taken],
+            &mut text,
+            out,
+        )?;
         if taken < count {
             return Err(Stop::TooLong);
         }
         at += count as u64;
     }
-    answer_last(session, &open_line, &mut text, out)?;
-    Ok(())
+    answer_last(session, files, &open_line, &mut text, out)
 }
 
 /// Puts a line, after which the run has this status.
@@ -304,11 +328,10 @@ fn replay<F: Files, K: Sink>(
 ) -> Status
     requires limits { AreLimits limits }
     requires none { kept.old ≡ None }
-    ensures outcome { (words : List Text) → IsReplay words image.now script.now limits → IfSome (F.told files.old) (λ store. IfSome (K.so_far out.old) (λ before. Outcome words store before (K.so_far out.new) kept.new result)) }
+    ensures outcome { (words : List Text) → IsReplay words image.now script.now limits → WhereTold (F.told files.old) (F.told files.new) (λ store store_now. IfSome (K.so_far out.old) (λ before. Outcome words (record { files = store; files_now = store_now; before = before; after = K.so_far out.new; writes = F.write_count files.old; writes_now = F.write_count files.new; puts = K.fault_count out.old; puts_now = K.fault_count out.new }) kept.new result)) }
     ensures judges { (words : List Text) → IsReplay words image.now script.now limits → Judges words result }
-    ensures counts { Counts (F.read_count files.old) (F.read_count files.new) (K.fault_count out.old) (K.fault_count out.new) result }
-    ensures writes { F.write_count files.new ≡ F.write_count files.old }
-    ensures same { F.told files.new ≡ F.told files.old }
+    ensures counts { Counts (F.read_count files.old) (F.read_count files.new) (F.write_count files.old) (F.write_count files.new) (K.fault_count out.old) (K.fault_count out.new) result }
+    ensures files { KeepsFiles (F.told files.old) (F.told files.new) result }
     ensures kept { (words : List Text) → IsReplay words image.now script.now limits → IsLeft words result kept.new }
 {
     let mut session = match Session::start(alloc, files, image, script, limits) {
@@ -400,7 +423,11 @@ fn request_of(words: &[String]) -> Option<Request>
 /// Behind these words may stand `--room` and a number of words, 0 or 2 to 2^26: as much room as the heap has for further objects, 2^20
 /// words where it is not told.
 ///
-/// Where lines were answered the session is kept as they have left it; none is where the words are misused or the image is refused.
+/// A line may save the heap, under any name but the script's; no other file changes, and none does where the words are misused or the image is refused. A save
+/// that meets a fault ends the run: its file is then as it was or a front of the image, and the answers of all lines before it were put.
+///
+/// Where lines were answered the session is kept as they have left it, and has ended where a save met a fault; none is kept where the words are misused or the
+/// image is refused.
 pub fn run<F: Files, K: Sink>(
     alloc: Global,
     words: &[String],
@@ -409,11 +436,10 @@ pub fn run<F: Files, K: Sink>(
     kept: &mut Option<Session>,
 ) -> Status
     requires { kept.old ≡ None }
-    ensures outcome { IfSome (F.told files.old) (λ store. IfSome (K.so_far out.old) (λ before. Outcome (map string_bytes words.now) store before (K.so_far out.new) kept.new result)) }
+    ensures outcome { WhereTold (F.told files.old) (F.told files.new) (λ store store_now. IfSome (K.so_far out.old) (λ before. Outcome (map string_bytes words.now) (record { files = store; files_now = store_now; before = before; after = K.so_far out.new; writes = F.write_count files.old; writes_now = F.write_count files.new; puts = K.fault_count out.old; puts_now = K.fault_count out.new }) kept.new result)) }
     ensures judges { Judges (map string_bytes words.now) result }
-    ensures counts { Counts (F.read_count files.old) (F.read_count files.new) (K.fault_count out.old) (K.fault_count out.new) result }
-    ensures writes { F.write_count files.new ≡ F.write_count files.old }
-    ensures same { F.told files.new ≡ F.told files.old }
+    ensures counts { Counts (F.read_count files.old) (F.read_count files.new) (F.write_count files.old) (F.write_count files.new) (K.fault_count out.old) (K.fault_count out.new) result }
+    ensures files { KeepsFiles (F.told files.old) (F.told files.new) result }
     ensures kept { IsLeft (map string_bytes words.now) result kept.new }
 {
     match request_of(words) {

@@ -1,8 +1,6 @@
 // A session, and what its lines are answered.
-ghost use Rattle.std.specs.Prelude.{◌≡◌, ℕ, List, take, true, false, Option, IfOk, IfErr, IfSome, OnErr};
+ghost use Rattle.std.specs.Prelude.{◌≡◌, ◌≢◌, ◌↔◌, take, true, false, Err, IfOk, IfErr, IfSome, IsSome, OnErr};
 ghost use Rattle.std.specs.FinMap as map;
-ghost use Rattle.spur_graph.specs.declared.answer.Answer.TheVariants.{Refused};
-ghost use Rattle.spur_graph.specs.State.{Files as FileBytes};
 ghost use Rattle.spur_graph.specs.ImageFile.{header_bytes};
 ghost use Rattle.spur_graph.specs.ImageCauses.{IsAccepted};
 ghost use Rattle.spur_graph.specs.LoadedGraph.{loaded_graph, loaded_room};
@@ -10,14 +8,16 @@ ghost use Rattle.spur_graph.specs.Heaps.{Stands, Whole};
 ghost use Rattle.image_file.specs.Errors.{IsCauseOf};
 ghost use Rattle.image_load.specs.Loaded.{AreLimits, LoadCause};
 ghost use Rattle.replay.specs.declared.session.LineFault.TheVariants.{Ended};
-ghost use Rattle.replay.specs.Commands.{Replies, Steps, Keeps};
-ghost use Rattle.replay.specs.Sessions.{SameRun, Advances};
+ghost use Rattle.replay.specs.Commands.{Replies, Steps, HeapStops, Keeps, answered};
+ghost use Rattle.replay.specs.Sessions.{SameRun, Advances, Stops, WhereTold, FaultCause, LineCause};
 ghost use Rattle.replay.specs.Writes.{LineWrites};
 
 use crate::commands::obey;
+use crate::halts::{Halt, answered};
+use crate::saving::save_image;
 use image_load::{LoadError, load};
 use script_text::{Syntax, read_line};
-use spur_graph::{Answer, Limits, Refusal, keeps_names};
+use spur_graph::{Answer, Command, Limits, Refusal, keeps_names};
 use spur_heap::Heap;
 use spur_io::Files;
 use std::alloc::Global;
@@ -34,6 +34,32 @@ pub enum LineFault {
     Memory,
     /// The session has ended.
     Ended,
+}
+
+/// Why a line is not answered, of a session that has not ended.
+#[derive(Clone, Copy, Debug, PartialEq, Eq)]
+pub(crate) enum Fault {
+    /// A read of a file failed.
+    Read,
+    /// A write to a file failed.
+    Write,
+    /// There was no memory.
+    Memory,
+}
+
+impl From<Fault> for LineFault {
+    ghost use Rattle.replay.specs.declared.session.Fault.{Fault};
+    ghost use Rattle.replay.specs.Sessions.{line_fault};
+
+    ghost from_gives = { λ fault why. why ≡ line_fault fault };
+
+    fn from(fault: Fault) -> Self {
+        match fault {
+            Fault::Read => LineFault::Read,
+            Fault::Write => LineFault::Write,
+            Fault::Memory => LineFault::Memory,
+        }
+    }
 }
 
 /// The heap of an image, the name of the script that is run on it, and whether it has ended.
@@ -59,42 +85,50 @@ impl Model for Session {
     ghost invariant = { λ s. s.heap.phase ≡ Whole };
 }
 
-/// What a line is answered, or why it is refused.
-fn try_line(heap: &mut Heap, bytes: &[u8]) -> Result<Answer, Refusal>
-    ensures done { IfOk result (λ answer. Replies heap.old bytes.now answer heap.new) }
-    ensures refused { IfErr result (λ why. Replies heap.old bytes.now (Refused why) heap.new) }
+/// What a line is answered, or what halts it.
+fn try_line<F: Files>(
+    heap: &mut Heap,
+    script: &str,
+    files: &mut F,
+    bytes: &[u8],
+) -> Result<Answer, Halt>
+    ensures replies { IfOk (answered result) (λ answer. Replies heap.old script.now (F.told files.old) bytes.now answer heap.new (F.told files.new)) }
+    ensures stops { OnErr (answered result) (WhereTold (F.told files.old) (F.told files.new) (HeapStops heap.old script.now bytes.now)) }
+    ensures same { OnErr (answered result) (heap.new ≡ heap.old) }
     ensures words { LineWrites heap.old bytes.now heap.new }
     ensures keeps { Keeps heap.old heap.new }
+    ensures told { IsSome (F.told files.new) ↔ IsSome (F.told files.old) }
+    ensures cause { FaultCause (F.read_count files.old) (F.read_count files.new) (F.write_count files.old) (F.write_count files.new) (answered result) }
 {
     match read_line(bytes) {
-        Ok(line) => obey(heap, line.mutator, &line.command),
-        Err(Syntax::Long) => Err(Refusal::Long),
-        Err(Syntax::Bad) => Err(Refusal::Syntax),
+        Ok(line) => match &line.command {
+            Command::Save { name } => save_image(heap, script, files, name),
+            _ => Ok(obey(heap, line.mutator, &line.command)?),
+        },
+        Err(Syntax::Long) => Err(Refusal::Long.into()),
+        Err(Syntax::Bad) => Err(Refusal::Syntax.into()),
     }
 }
 
-/// What a line is answered.
-fn reply(heap: &mut Heap, bytes: &[u8]) -> Answer
-    ensures answer { Replies heap.old bytes.now result heap.new }
+/// The step of a line over a heap. A line that meets a fault makes none, and leaves the heap as it was.
+fn step<F: Files>(
+    heap: &mut Heap,
+    script: &str,
+    files: &mut F,
+    bytes: &[u8],
+) -> Result<Answer, Fault>
+    ensures answer { IfOk result (λ answer. Steps heap.old script.now (F.told files.old) bytes.now answer heap.new (F.told files.new)) }
+    ensures stops { OnErr result (WhereTold (F.told files.old) (F.told files.new) (HeapStops heap.old script.now bytes.now)) }
+    ensures same { OnErr result (heap.new ≡ heap.old) }
     ensures words { LineWrites heap.old bytes.now heap.new }
     ensures keeps { Keeps heap.old heap.new }
+    ensures told { IsSome (F.told files.new) ↔ IsSome (F.told files.old) }
+    ensures cause { FaultCause (F.read_count files.old) (F.read_count files.new) (F.write_count files.old) (F.write_count files.new) result }
 {
-    match try_line(heap, bytes) {
-        Ok(answer) => answer,
-        Err(why) => Answer::Refused(why),
-    }
-}
-
-/// The step of a line over a heap.
-fn step(heap: &mut Heap, bytes: &[u8]) -> Answer
-    ensures answer { Steps heap.old bytes.now result heap.new }
-    ensures words { LineWrites heap.old bytes.now heap.new }
-    ensures keeps { Keeps heap.old heap.new }
-{
-    let answer = reply(heap, bytes);
+    let tried = try_line(heap, script, files, bytes);
     heap.whole();
     keeps_names();
-    answer
+    answered(tried)
 }
 
 impl Session {
@@ -144,32 +178,46 @@ impl Session {
     }
 
     /// The answer to a line without its line feed, whether or not the session has ended; of a line of more than 1,024 bytes any first
-    /// bytes do that are more than 1,024 too.
-    pub(crate) fn answer(&mut self, bytes: &[u8]) -> Answer
-        ensures step { (told : Option FileBytes) → Advances self.old told bytes.now result self.new told }
+    /// bytes do that are more than 1,024 too. A fault ends the session.
+    pub(crate) fn answer<F: Files>(&mut self, files: &mut F, bytes: &[u8]) -> Result<Answer, Fault>
+        ensures step { IfOk result (λ answer. Advances self.old (F.told files.old) bytes.now answer self.new (F.told files.new)) }
+        ensures stops { OnErr result (WhereTold (F.told files.old) (F.told files.new) (Stops self.old bytes.now)) }
+        ensures open { IfOk result (λ answer. self.new.ended ≡ self.old.ended) }
+        ensures fault { OnErr result (self.new ≡ record self.old { ended = true }) }
         ensures words { LineWrites self.old.heap bytes.now self.new.heap }
         ensures run { SameRun self.old self.new }
+        ensures told { IsSome (F.told files.new) ↔ IsSome (F.told files.old) }
+        ensures cause { FaultCause (F.read_count files.old) (F.read_count files.new) (F.write_count files.old) (F.write_count files.new) result }
     {
-        step(&mut self.heap, bytes)
+        let answered = step(&mut self.heap, self.script.as_str(), files, bytes);
+        if answered.is_err() {
+            self.ended = true;
+        }
+        answered
     }
 
     /// The answer to a line without its line feed; of a line of more than 1,024 bytes any first bytes do that are more than 1,024 too.
-    /// [`LineFault::Ended`] where the session has ended; then nothing changes.
+    ///
+    /// The line `save NAME` makes the file of that name an image of the heap, and no other line changes a file. [`LineFault::Write`] and
+    /// [`LineFault::Memory`] come where the store refuses a call of a save: the file is then as it was or a front of the image, the heap is
+    /// as it was, and the session has ended. [`LineFault::Ended`] comes where the session has ended before; then nothing changes.
     ///
     /// The clause `words` says which words of the region stay where the line is `become` or `forward`.
     pub fn line<F: Files>(&mut self, files: &mut F, bytes: &[u8]) -> Result<Answer, LineFault>
         ensures step { IfOk result (λ answer. Advances self.old (F.told files.old) bytes.now answer self.new (F.told files.new)) }
-        ensures open { IfOk result (λ answer. self.old.ended ≡ false) }
-        ensures fault { IfErr result (λ why. (why ≡ Ended) × (self.old.ended ≡ true)) }
+        ensures open { IfOk result (λ answer. (self.old.ended ≡ false) × (self.new.ended ≡ false)) }
+        ensures ended { (result ≡ Err Ended) ↔ (self.old.ended ≡ true) }
+        ensures fault { OnErr result (self.new ≡ record self.old { ended = true }) }
+        ensures stops { IfErr result (λ why. why ≢ Ended → WhereTold (F.told files.old) (F.told files.new) (Stops self.old bytes.now)) }
+        ensures untouched { self.old.ended ≡ true → F.told files.new ≡ F.told files.old }
         ensures words { LineWrites self.old.heap bytes.now self.new.heap }
-        ensures same { OnErr result (self.new ≡ self.old) }
         ensures run { SameRun self.old self.new }
-        ensures told { F.told files.new ≡ F.told files.old }
-        ensures counts { (F.read_count files.new ≡ F.read_count files.old) × (F.write_count files.new ≡ F.write_count files.old) }
+        ensures told { IsSome (F.told files.new) ↔ IsSome (F.told files.old) }
+        ensures cause { LineCause (F.read_count files.old) (F.read_count files.new) (F.write_count files.old) (F.write_count files.new) result }
     {
         if self.ended {
             return Err(LineFault::Ended);
         }
-        Ok(self.answer(bytes))
+        Ok(self.answer(files, bytes)?)
     }
 }

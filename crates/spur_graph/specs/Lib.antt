@@ -20,6 +20,7 @@ pub mod Spaces
 pub mod HeapRoom
 pub mod Heaps
 pub mod LoadedGraph
+pub mod Denotes
 pub mod Words
 pub mod Form
 pub mod Rows
@@ -32,6 +33,7 @@ pub mod Shows
 pub mod Classes
 pub mod Instances
 pub mod Hashes
+pub mod Saves
 pub mod Does
 pub mod Step
 pub mod Bytes

@@ -1,6 +1,7 @@
 -- The conditions of refusals.
 use Rattle.std.specs.Prelude.{ℕ, ◌*◌, ◌/◌, ◌%◌, ◌^◌, ℤ, pos, negsuc, List, [], ◌∷◌, length, Bool, not, if◌then◌else◌, ◌==◌, ◌&&◌, ◌||◌, nat_eq, nat_le, nat_lt, Option, Some, None}
 use Rattle.std.specs.Option.{is_none}
+use Rattle.std.specs.Prelude.{bytes_eq}
 use Rattle.std.specs.List.{list_any}
 use Rattle.std.specs.FinMap.{entries, len}
 use Rattle.std.specs.FinSet.{contains}
@@ -148,3 +149,7 @@ no_index g = test (nat_le class_limit (free_index g)) r.Table
 -- the index has no page, and nothing serves it one
 abbrev pub no_page : Room → ℕ → Option Refusal
 no_page room i = if contains room.pages (i / page_entries) then None else unserved OldAlone room page_words
+
+-- the file of this name is the script that is run
+abbrev pub is_script : Text → Text → Option Refusal
+is_script script name = test (bytes_eq name script) r.Name

@@ -2,6 +2,7 @@ ghost use Rattle.std.specs.Prelude.{◌≡◌, ◌+◌, ◌<◌, ◌≤◌, leng
 ghost use Rattle.std.specs.Borrow.{sem};
 ghost use Rattle.spur_words.specs.Lending.{LendsRun};
 
+use crate::slide::slide_run;
 use std::alloc::Global;
 use std::marker::Model;
 
@@ -95,5 +96,21 @@ impl Region {
         ensures value { result.now ≡ slice_range self.old at (at + len) }
     {
         self.words.slice_mut(at..at + len)
+    }
+
+    /// Moves the run of `len` words at the index `from` down to the index `to`. The two runs may share
+    /// words. No word outside the run at `to` changes, so that what stood at `from` and is not written
+    /// over stays there.
+    pub fn slide(&mut self, from: usize, to: usize, len: usize)
+        requires down { to ≤ from }
+        requires within { from + len ≤ length self.old }
+        ensures same_length { length self.new ≡ length self.old }
+        ensures moved { (k : ℕ) → k < len
+            → slice_index self.new (to + k) ≡ slice_index self.old (from + k) }
+        ensures below { (k : ℕ) → k < to → slice_index self.new k ≡ slice_index self.old k }
+        ensures above { (k : ℕ) → to + len ≤ k
+            → slice_index self.new k ≡ slice_index self.old k }
+    {
+        slide_run(self.words.as_mut_slice(), from, to, len);
     }
 }

@@ -23,6 +23,20 @@ fn views_write_the_words_that_they_name(rt: HostRuntime) -> Result<(), Fail> {
     Ok(())
 }
 
+#[test]
+fn run_slides_over_its_own_words(rt: HostRuntime) -> Result<(), Fail> {
+    let mut region = Region::new(rt.alloc(), 8)?;
+    assert_eq!(rt; region.len(), 8);
+    region.put(2, 2);
+    region.put(3, 3);
+    region.put(4, 4);
+    region.put(5, 5);
+    region.put(6, 6);
+    region.slide(3, 1, 3);
+    assert_eq!(rt; region.as_slice(), [0, 3, 4, 5, 4, 5, 6, 0].as_slice());
+    Ok(())
+}
+
 // What a caller of several views knows: the words that it wrote, each over those before it.
 fn fill_chunk(region: &mut Region, at: usize)
     requires small { at < 2 ^ 27 }

@@ -50,7 +50,7 @@ fn header(count: u64, format: u64, class: u64) -> u64 {
 
 /// A store with the base image and a second segment of 18 words behind it, 1,000 words on: an array with this word in slot 0, a free chunk,
 /// an object of format 3 with two slots of no value, and an object-stack page.
-fn two_segments(alloc: Global, slot: u64) -> Result<MemoryFiles, Fail> {
+pub(super) fn two_segments(alloc: Global, slot: u64) -> Result<MemoryFiles, Fail> {
     let mut files = store(alloc, "")?;
     // the length of the heap
     patch(alloc, &mut files, 8, &50_432u64.to_le_bytes())?;
@@ -249,27 +249,25 @@ fn class_tables_name_classes(rt: HostRuntime) -> Result<(), Fail> {
     )
 }
 
+/// What is answered of the second segment, where the array's slot names the object of format 3.
+pub(super) const SEGMENT_ROWS: [(&str, &str); 11] = [
+    ("special s", "ok"),
+    ("fetch a s 0", "ok"),
+    ("fetch c a 0", "ok"),
+    ("fetch x c 0", "ok"),
+    ("kind x", "int 7"),
+    ("fetch y c 1", "ok"),
+    ("kind y", "nil"),
+    ("fetch z c 2", "ok"),
+    ("kind z", "nil"),
+    ("fetch t a 1", "ok"),
+    ("same s t", "true"),
+];
+
 #[test]
 fn references_lead_from_segment_to_segment(rt: HostRuntime) -> Result<(), Fail> {
     let mut files = two_segments(rt.alloc(), 1_106_920)?;
-    check_rows(
-        &rt,
-        rt.alloc(),
-        &mut files,
-        &[
-            ("special s", "ok"),
-            ("fetch a s 0", "ok"),
-            ("fetch c a 0", "ok"),
-            ("fetch x c 0", "ok"),
-            ("kind x", "int 7"),
-            ("fetch y c 1", "ok"),
-            ("kind y", "nil"),
-            ("fetch z c 2", "ok"),
-            ("kind z", "nil"),
-            ("fetch t a 1", "ok"),
-            ("same s t", "true"),
-        ],
-    )
+    check_rows(&rt, rt.alloc(), &mut files, &SEGMENT_ROWS)
 }
 
 #[test]

@@ -19,7 +19,7 @@ fn a_line_of_no_command_is_refused(rt: HostRuntime) -> Result<(), Fail> {
             ("@16 stat", "! syntax"),
             ("@01 stat", "! syntax"),
             ("@ stat", "! syntax"),
-            ("save a.image", "! unsupported"),
+            ("segstore h o c a.seg", "! unsupported"),
             ("@7 gc", "! unsupported"),
             ("mourn a", "! unsupported"),
             ("kind q", "! unknown"),

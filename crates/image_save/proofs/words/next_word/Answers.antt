@@ -1,8 +1,8 @@
 use Rattle.std.proofs.Common.{subst, sym, ap, ◌∙◌, arith}
 use Rattle.spur_heap.specs.Parts.{view_of}
 use Rattle.image_save.specs.Saved.{saved_at}
-use Rattle.image_save.specs.Places.{IsAt}
-use Rattle.image_save.proofs.Ready.{word_at, word_behind}
+use Rattle.image_save.specs.Places.{Covers}
+use Rattle.image_save.proofs.Ready.{word_behind, word_is}
 use Rattle.image_save.proofs.words.next_word.Goals as goal
 
 pub returns-then-i-places-clause-word : goal.returns-then-i-places-clause-word
@@ -11,6 +11,7 @@ returns-then-i-places-clause-word c = sym (word_behind (view_of c.args.parts.now
 pub returns-clause-word : goal.returns-clause-word
 returns-clause-word c =
     let v = view_of c.args.parts.now in
-    let at = c.advance.ensures.at in
-    c.saved_at.ensures ∙ ap (saved_at v c.advance.new.cursor.start) c.region_place-at.ensures
-    ∙ sym (word_at v c.requires.whole c.args.i c.advance.new.cursor (omega (arith, c.if-i-places.false, c.requires.places.words_is)) (subst (λ q. IsAt v q c.advance.new.cursor) c.region_place-at.ensures at))
+    let a = c.advance.ensures.at in
+    let same = c.region_place-at.ensures in
+    c.saved_at.ensures a.chunk a.covers ∙ ap (saved_at v a.chunk) same
+    ∙ sym (word_is v c.requires.whole c.args.i a.chunk (omega (arith, c.if-i-places.false, c.requires.places.words_is)) (subst (Covers v a.chunk) same a.covers))

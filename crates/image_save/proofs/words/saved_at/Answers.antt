@@ -1,26 +1,35 @@
-use Rattle.std.proofs.Common.{◌≡◌, ◌+◌, ◌-◌, ℕ, get_or, false, subst, sym, ap, ◌∙◌, arith}
+use Rattle.std.proofs.Common.{◌∙◌, arith}
 use Rattle.heap_cells.proofs.Members.{in_list}
 use Rattle.spur_heap.specs.Parts.{view_of}
-use Rattle.image_save.specs.Saved.{saved_chunks, is_blank, value_count}
-use Rattle.image_save.specs.Words.{IsValue}
-use Rattle.image_save.proofs.Parts.{seen, whole_sound}
-use Rattle.image_save.proofs.Values.{unblank_value}
+use Rattle.image_save.specs.Saved.{saved_chunks}
+use Rattle.image_save.proofs.Parts.{seen}
+use Rattle.image_save.proofs.Fits.{chunk_small}
+use Rattle.image_save.proofs.Ready.{object_at, free_at}
 use Rattle.image_save.proofs.words.saved_at.Goals as goal
 
-pub get-word-requires : goal.get-word-requires
-get-word-requires c =
+pub object_word-requires-clause-inside : goal.object_word-requires-clause-inside
+object_word-requires-clause-inside c =
     let v = view_of c.args.parts.now in
     let a = c.requires.at in
     let l = (seen v c.requires.whole a.chunk (in_list (saved_chunks v) a.chunk a.covers.saved)).lies in
     omega (arith, a.covers.to, l.before)
 
-pub saved_value-requires-clause-value : goal.saved_value-requires-clause-value
-saved_value-requires-clause-value c =
+pub free_word-requires-clause-big : goal.free_word-requires-clause-big
+free_word-requires-clause-big c =
     let v = view_of c.args.parts.now in
     let a = c.requires.at in
-    let s : ℕ = c.args.cursor.now.start in
-    let n : ℕ = c.args.at - (s + 1) in
-    let off : is_blank v s ≡ false = ap (is_blank v) a.start_is ∙ sym a.blank_is ∙ c.if-cursor.false in
-    let count : c.args.cursor.now.values ≡ value_count v s = a.values_are c.if-cursor.false ∙ ap (value_count v) (sym a.start_is) in
-    let here : s + 1 + n ≡ c.args.at = omega (arith, c.if-at-cursor.false, c.if-at-cursor-2.false) in
-    subst (IsValue v) (ap (λ j. get_or v.words j 0) here ∙ sym c.get-word.ensures) (unblank_value v (whole_sound v c.requires.whole) s n off (omega (arith, c.if-at-cursor-3.true, count)))
+    let l = (seen v c.requires.whole a.chunk (in_list (saved_chunks v) a.chunk a.covers.saved)).lies in
+    omega (arith, a.at_is, a.end_is, l.lead, l.room)
+
+pub free_word-requires-clause-small : goal.free_word-requires-clause-small
+free_word-requires-clause-small c =
+    let v = view_of c.args.parts.now in
+    let a = c.requires.at in
+    let few = chunk_small v c.requires.whole a.chunk (in_list (saved_chunks v) a.chunk a.covers.saved) in
+    omega (arith, a.at_is, a.end_is, few)
+
+pub returns-in-Some : goal.returns-in-Some
+returns-in-Some c d k = c.object_word.ensures ∙ object_at (view_of c.args.parts.now) c.requires.whole c.args.at c.args.cursor.now c.requires.at c.in-Some.pointers c.in-Some.is d k
+
+pub returns-in-None : goal.returns-in-None
+returns-in-None c d k = c.free_word.ensures ∙ free_at (view_of c.args.parts.now) c.requires.whole c.args.at c.args.cursor.now c.requires.at c.in-None.is d k

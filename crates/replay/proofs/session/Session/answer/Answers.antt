@@ -1,17 +1,18 @@
-use Rattle.std.proofs.Common.{subst, ap, refl}
+use Rattle.std.proofs.Common.{List, ℕ, IfOk, subst, refl}
 use Rattle.std.specs.String.{string_bytes}
-use Rattle.spur_graph.specs.Heaps.{View}
 use Rattle.replay.specs.Sessions.{SessionView, SameRun}
 use Rattle.replay.specs.Commands.{Steps}
-use Rattle.replay.proofs.Steps.{step_advances, stepped_run}
+use Rattle.replay.proofs.Steps.{steps_advance, stepped_run}
 use Rattle.replay.proofs.session.Session.answer.Goals as goal
 
-pub returns-clause-step : goal.returns-clause-step
-returns-clause-step c = λ told.
-    let new : SessionView = record { heap = c.step.new.heap; script = string_bytes c.self.inside.script; ended = c.self.inside.ended } in
-    let run : SameRun c.args.self.now new = stepped_run c.self.view_is c.step.ensures.keeps refl refl in
-    let P : View → Type 0 = λ v. Steps v c.args.bytes.now c.step.result new.heap in
-    step_advances c.args.self.now new told c.args.bytes.now c.step.result run (subst P (ap (λ (s : SessionView). s.heap) c.self.view_is) c.step.ensures.answer)
-
-pub returns-clause-run : goal.returns-clause-run
-returns-clause-run c = stepped_run c.self.view_is c.step.ensures.keeps refl refl
+pub returns-else-is_err-clause-step : goal.returns-else-is_err-clause-step
+returns-else-is_err-clause-step g c =
+    let told = g.F.Files.told c.args.files.now in
+    let told_now = g.F.Files.told c.step-answered.new.files in
+    let inner : SessionView = record { heap = c.self.inside.heap; script = string_bytes c.self.inside.script; ended = c.self.inside.ended } in
+    let new : SessionView = record { heap = c.step-answered.new.heap; script = string_bytes c.self.inside.script; ended = c.self.inside.ended } in
+    let run : SameRun c.args.self.now new = stepped_run c.self.view_is c.step-answered.ensures.keeps refl in
+    let P : SessionView → Type 0 = λ s. IfOk c.step-answered.result (λ answer. Steps s.heap s.script told c.args.bytes.now answer new.heap told_now) in
+    let Q : List ℕ → Type 0 = λ script. IfOk c.step-answered.result (λ answer. Steps inner.heap script told c.args.bytes.now answer new.heap told_now) in
+    steps_advance c.args.self.now new told told_now c.args.bytes.now c.step-answered.result run
+    (subst P c.self.view_is (subst Q c.as_str.ensures.value c.step-answered.ensures.answer))
