@@ -14,15 +14,20 @@ import tempfile
 import time
 from array import array
 
-from base_image import BASE, HEAP_WORDS, NIL, address, header, header_word, heap_words
+from base_image import BASE, HEAP_WORDS, NIL, SPECIAL_ARRAY, address, header, header_word, heap_words
 
 TOP = os.path.dirname(os.path.dirname(os.path.abspath(__file__)))
 MIB = 1 << 20
 
 
-def write_image(path, objects):
-    """Writes the base image with further objects behind its own: words that refer to one another by address."""
+FIRST = BASE + 8 * (HEAP_WORDS - 2)  # the address of the first further object
+
+
+def write_image(path, objects, root=address(NIL)):
+    """Writes the base image with further objects behind its own: words that refer to one another by address. The special objects array names the root in
+    its first slot."""
     heap = array("Q", heap_words()[:-2]) + objects + array("Q", [0, 0])
+    heap[SPECIAL_ARRAY + 1] = root
     with open(path, "wb") as file:
         file.write(header(len(heap)))
         heap.tofile(file)
@@ -32,8 +37,7 @@ def objects(count, slots, stride):
     """So many arrays, the first slot of each naming the one `stride` places on, the others nil."""
     words = array("Q", [header_word(slots, 2, 51)] + [address(NIL)] * slots) * count
     size = slots + 1
-    first = BASE + 8 * (HEAP_WORDS - 2)
-    words[1::size] = array("Q", (first + 8 * size * ((i + stride) % count) for i in range(count)))
+    words[1::size] = array("Q", (FIRST + 8 * size * ((i + stride) % count) for i in range(count)))
     return words
 
 
@@ -174,10 +178,48 @@ def exchange_objects(program, folder, runs):
         measure(label, words, ["wc", "-l", "becoming.script"], count / 1e6, "Mlines", folder, runs)
 
 
+def write_list(path, count, step):
+    """So many arrays of three slots. Every `step`th stands in a list that the special objects array names, and the others are garbage."""
+    words = objects(count, 3, step)
+    words[4 * ((count - 1) // step * step) + 1] = address(NIL)
+    write_image(path, words, FIRST)
+
+
+def write_ephemerons(path, count):
+    """A chain of ephemerons, the first of which is live: each has a key of its own, and names the next, so that each fires in a round of its own."""
+    words = array("Q", [header_word(3, 5, 54), 0, 0, address(NIL), header_word(1, 2, 51), address(NIL)]) * count
+    words[1::6] = array("Q", (FIRST + 8 * (6 * i + 4) for i in range(count)))
+    words[2::6] = array("Q", (FIRST + 8 * 6 * (i + 1) for i in range(count)))
+    words[6 * (count - 1) + 2] = address(NIL)
+    write_image(path, words, FIRST)
+
+
+def collect_garbage(program, folder, runs):
+    """Loads images, and loads them and collects what is dead. Half of the objects of the first are garbage, and every other one moves."""
+    image = os.path.join(folder, "some.image")
+    with open(os.path.join(folder, "gc.script"), "w") as file:
+        file.write("gc\nstat\n")
+    for label, write, count, of, saved in [
+        ("3-slot objects, half garbage", write_list, 8_000_000, 2, "16777216"),
+        ("a list of 3-slot objects", write_list, 1_000_000, 1, "4096"),
+        ("a list, half garbage", write_list, 200_000, 2, "4096"),
+        ("ephemerons, a round each", write_ephemerons, 1_000, None, "4096"),
+        ("ephemerons, a round each", write_ephemerons, 4_000, None, "4096"),
+    ]:
+        writer = multiprocessing.Process(target=write, args=(image, count) if of is None else (image, count, of))
+        writer.start()
+        writer.join()
+        size = os.path.getsize(image) / MIB
+        for what, script in [("load", "no.script"), ("load, gc", "gc.script")]:
+            words = [program, "replay", "some.image", script, "--room", "0", "--saved", saved]
+            measure(f"{what} {count:,} {label}", words, ["cat", "some.image"], size, "MiB", folder, runs)
+        os.remove(image)
+
+
 def main():
     parser = argparse.ArgumentParser(description=__doc__.splitlines()[0])
     parser.add_argument("--runs", type=int, default=5)
-    parser.add_argument("--only", default="", help="load, save, lines, making, becoming")
+    parser.add_argument("--only", default="", help="load, save, lines, making, becoming, gc")
     parser.add_argument("--program", default=os.path.join(TOP, "spur"))
     given = parser.parse_args()
     program = os.path.abspath(given.program)
@@ -196,6 +238,8 @@ def main():
             make_objects(program, folder, given.runs)
         if not only or "becoming" in only:
             exchange_objects(program, folder, given.runs)
+        if not only or "gc" in only:
+            collect_garbage(program, folder, given.runs)
 
 
 if __name__ == "__main__":

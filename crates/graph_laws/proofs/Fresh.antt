@@ -19,7 +19,7 @@ use Rattle.spur_graph.proofs.Swapping.{swapped-left, swapped-right, swapped-else
 use Rattle.graph_laws.proofs.Values.{one_to_one}
 use Rattle.graph_laws.proofs.Named.{IsNamed}
 
-none_mapped : {X Y : Type 0} (f : X → Y) (o : Option X) → option_map f o ≡ None → o ≡ None
+pub none_mapped : {X Y : Type 0} (f : X → Y) (o : Option X) → option_map f o ≡ None → o ≡ None
 none_mapped f None e = refl
 none_mapped f (Some x) e = absurd (none-some (f x) (sym e))
 

@@ -37,7 +37,7 @@ pub record IsNamed (s : State) : Type 0 where
   pub old_names : (a : ℕ) → get s.graph.nodes a ≡ None → contains s.room.old_names a ≡ false
 
 -- an option that is chosen and is there is one of both
-some_chosen : {X : Type 0} (b : Bool) (x y : Option X) (w : X) → cond b x y ≡ Some w → (x ≡ Some w) ⊎ (y ≡ Some w)
+pub some_chosen : {X : Type 0} (b : Bool) (x y : Option X) (w : X) → cond b x y ≡ Some w → (x ≡ Some w) ⊎ (y ≡ Some w)
 some_chosen true x y w e = inl e
 some_chosen false x y w e = inr e
 
@@ -45,7 +45,7 @@ none_chosen : {X : Type 0} (b : Bool) (y : Option X) (w : X) → cond b None y �
 none_chosen true y w e = absurd (none-some w e)
 none_chosen false y w e = e
 
-ref_is : (a b : ℕ) → Ref a ≡ Ref b → a ≡ b
+pub ref_is : (a b : ℕ) → Ref a ≡ Ref b → a ≡ b
 ref_is a b e = ap (λ v. unwrap_or (named_by v) 0) e
 
 -- a name that has a node

@@ -4,7 +4,7 @@ use Rattle.std.proofs.lemmas.List.{length-map, map-set}
 use Rattle.std.proofs.Math.ListN.{get_or-map}
 use Rattle.std.specs.Option.{option_map}
 use Rattle.std.specs.List.{flat_map, sum}
-use Rattle.std.specs.FinMap.{get, len}
+use Rattle.std.specs.FinMap.{get}
 use Rattle.std.specs.FinSet.{contains}
 use Rattle.object_header.specs.Formats.{pointer_slots_of}
 use Rattle.spur_graph.specs.declared.answer.Answer.{Answer}
@@ -42,7 +42,7 @@ use Rattle.graph_laws.proofs.BecomeOutcomes.{exchange-alike, forward-alike, pin-
 use Rattle.graph_laws.proofs.NamedOutcomes.{two_bare, node_there, stays_named}
 use Rattle.graph_laws.proofs.Changes.{bound-renamed, dropped-renamed, changed-renamed, state-renamed, entered-renamed, made-renamed, q}
 use Rattle.graph_laws.proofs.Fresh.{fresh-iso, fresh-room}
-use Rattle.graph_laws.proofs.Counts.{len-renamed, waiting-renamed}
+use Rattle.graph_laws.proofs.Counts.{len-renamed, waiting-counted}
 use Rattle.graph_laws.proofs.Rooms.{with_places, served_with, serve-same, served-keeps, entered-same, entered-keeps}
 use Rattle.graph_laws.proofs.Saving.{chooses-alike}
 use Rattle.graph_laws.proofs.Named.{IsNamed, all_named}
@@ -171,9 +171,9 @@ module _ {s t : State} (named : IsNamed s) (k : Renamed s t) (m : ℕ) where
   -- what is counted
   stat-alike : stat_of t.graph t.room ≡ stat_of s.graph s.room
   stat-alike = λ i. record {
-    nodes = len-renamed (rename_node k.p) k.p k.back k.graph.left k.graph.right (len s.graph.nodes) s.graph.nodes t.graph.nodes refl k.graph.nodes i;
+    nodes = len-renamed (rename_node k.p) k.p k.back k.graph.left k.graph.right s.graph.nodes t.graph.nodes k.graph.nodes i;
     handles = as_many_handles (rename k.p) s.graph.handles t.graph.handles k.graph.handles i;
-    mourners = (ap (λ groups. length (flat_map (λ (g : List ℕ). g) groups)) k.graph.mourners ∙ waiting-renamed (rename k.p) k.p k.back k.graph.left k.graph.right s.graph.mourners) i;
+    mourners = (ap (λ groups. length (flat_map (λ (g : List ℕ). g) groups)) k.graph.mourners ∙ waiting-counted k.p s.graph.mourners) i;
     free = sum (k.room.rest i).free;
     largest = largest (k.room.rest i).free;
     eden = (k.room.rest i).eden_left;

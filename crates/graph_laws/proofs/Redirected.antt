@@ -21,16 +21,13 @@ use Rattle.spur_graph.specs.Refusals.{is_special}
 use Rattle.spur_graph.specs.Become.{instead, redirect, room_redirected}
 use Rattle.spur_graph.proofs.MappedValues.{get-map_values}
 use Rattle.graph_laws.proofs.Named.{IsNamed, has_name, names_nothing}
+use Rattle.graph_laws.proofs.Fresh.{none_mapped}
 use Rattle.graph_laws.proofs.Becoming.{waiting-mapped}
 
 -- what goes through a function to something was something
-came_from : {X Y : Type 0} (f : X → Y) (o : Option X) (y : Y) → option_map f o ≡ Some y → (x : X) × (o ≡ Some x) × (f x ≡ y)
+pub came_from : {X Y : Type 0} (f : X → Y) (o : Option X) (y : Y) → option_map f o ≡ Some y → (x : X) × (o ≡ Some x) × (f x ≡ y)
 came_from f None y e = absurd (none-some y e)
 came_from f (Some x) y e = (x, refl, same_Some (f x) y e)
-
-none_from : {X Y : Type 0} (f : X → Y) (o : Option X) → option_map f o ≡ None → o ≡ None
-none_from f None e = refl
-none_from f (Some x) e = absurd (none-some (f x) (sym e))
 
 -- no special name is forwarded
 unlike : (g : Graph) (a : ℕ) → is_special g a ≡ false → (a ≢ g.nil) × (a ≢ g.no) × (a ≢ g.yes)
@@ -112,7 +109,7 @@ redirected-named {s} k a b n there apart plain = record {
         (values_led s.graph a b n there apart (from.0).pointers (recursion_from_All (HasNode s.graph) (from.0).pointers (k.pointers c from.0 from.1))))
 
     none_before : (c : ℕ) → c ≢ a → get (redirect s.graph a b).nodes c ≡ None → get s.graph.nodes c ≡ None
-    none_before c d none = none_from (rename_node (instead a b)) (get s.graph.nodes c) (sym (then_other s.graph a b n there apart c d) ∙ none)
+    none_before c d none = none_mapped (rename_node (instead a b)) (get s.graph.nodes c) (sym (then_other s.graph a b n there apart c d) ∙ none)
 
     tied : (c : ℕ) → c ≡ a → eq_by_cmp nat_cmp c a ≡ true
     tied c e = unsigned_tied c a ∙ eq-eqb c a e

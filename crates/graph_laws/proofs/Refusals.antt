@@ -1,12 +1,12 @@
 -- A command is refused for the same cause in states that differ in names alone.
-use Rattle.std.proofs.Common.{◌≡◌, ℕ, false, not, ◌||◌, nat_le, [], ◌∷◌, refl, ap, ◌∙◌, Option}
+use Rattle.std.proofs.Common.{◌≡◌, ℕ, false, not, ◌||◌, ◌==◌, nat_le, [], ◌∷◌, length, map, refl, ap, ◌∙◌, Option}
 use Rattle.std.proofs.lemmas.List.{length-map}
 use Rattle.spur_graph.specs.declared.answer.Refusal.{Refusal}
 use Rattle.spur_graph.specs.declared.answer.Refusal.TheVariants as r
 use Rattle.spur_graph.specs.Node.{Node}
 use Rattle.spur_graph.specs.Names.{Iso, rename, rename_node}
 use Rattle.spur_graph.specs.Bytes.{Text}
-use Rattle.spur_graph.specs.Form.{Form, Special, Nil, Yes, No, Int, Char, Float, Copy, Drop, Kind, Class, Size, Fetch, Store, Unit, SetUnit, Same, New, NewOld, Enter, Hash, Become, Forward, Pin, Unpin, ReadOnly, Writable, Save, Stat}
+use Rattle.spur_graph.specs.Form.{Form, Special, Nil, Yes, No, Int, Char, Float, Copy, Drop, Kind, Class, Size, Fetch, Store, Unit, SetUnit, Same, New, NewOld, Enter, Hash, Become, Forward, Pin, Unpin, ReadOnly, Writable, Gc, Mourn, Save, Stat}
 use Rattle.spur_graph.specs.Step.{SameRoom}
 use Rattle.spur_graph.specs.Room.{fresh_words}
 use Rattle.spur_graph.specs.Serve.{Source, Anywhere, OldAlone}
@@ -90,6 +90,8 @@ refused-renamed s t p back k room script m (Pin o) = pin_row s t k room m o
 refused-renamed s t p back k room script m (Unpin o) = known k m (o ∷ []) _ _ (bare_object k m o [] [] (λ _. refl))
 refused-renamed s t p back k room script m (ReadOnly o) = known k m (o ∷ []) _ _ (bare_object k m o [] [] (λ _. refl))
 refused-renamed s t p back k room script m (Writable o) = known k m (o ∷ []) _ _ (bare_object k m o [] [] (λ _. refl))
+refused-renamed s t p back k room script m Gc = refl
+refused-renamed s t p back k room script m (Mourn h) = bindable k m h [] _ _ (ap (λ l. first (test (l == 0) r.NoMourner ∷ [])) (ap length k.mourners ∙ length-map s.graph.mourners (map p)))
 refused-renamed s t p back k room script m (Save name) = ap (λ x. first (is_script x name ∷ [])) script
 refused-renamed s t p back k room script m Stat = refl
 refused-renamed s t p back k room script m form = refl

@@ -1,2 +1,3 @@
 pub mod FixedNames
 pub mod OutOfPlace
+pub mod Collected

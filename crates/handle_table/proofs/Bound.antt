@@ -1,5 +1,6 @@
 -- The map that handles and their words make.
-use Rattle.std.proofs.Common.{◌≡◌, ◌≢◌, ◌<◌, ℕ, zero, suc, ◌+◌, ◌-◌, Bool, true, false, cond, List, [], ◌∷◌, ◌++◌, length, slice_index, slice_set, swap_remove, is_some, Option, None, Some, ◌⊎◌, ◌↔◌, ◌==◌, IsTrue, refl, sym, ap, ◌∙◌, inl, inr, arith, subst, true≢false}
+use Rattle.std.proofs.Common.{◌≡◌, ◌≢◌, ◌<◌, ℕ, zero, suc, ◌+◌, ◌-◌, Bool, true, false, cond, List, [], ◌∷◌, ◌++◌, map, length, slice_index, slice_set, swap_remove, is_some, Option, None, Some, ◌⊎◌, ◌↔◌, ◌==◌, IsTrue, refl, sym, ap, ◌∙◌, inl, inr, arith, subst, true≢false}
+use Rattle.std.specs.Option.{option_map}
 use Rattle.std.specs.List.{All, zip}
 use Rattle.std.specs.Ordering.{eq_by_cmp}
 use Rattle.std.specs.FinMap.{FinMap, get, insert, remove, len, empty, from_entries, same_map, get-insert, get-remove, get-empty, get-from_entries, len-insert, len-empty, empty_of_len, from_entries_push}
@@ -186,13 +187,24 @@ is_empty_map m n e = elim (cases_eq n 0) [
 ]
 
 -- a word that a handle has is one of the words
+pub bound-among : (ks : List Handle) (ws : List ℕ) (q : Handle) (v : ℕ) → get (bound ks ws) q ≡ Some v → (i : ℕ) × (i < length ws) × (slice_index ws i ≡ v)
+bound-among [] ws q v e = absurd (no_some e (get-empty handle_cmp q))
+bound-among (k ∷ ks) [] q v e = absurd (no_some e (get-empty handle_cmp q))
+bound-among (k ∷ ks) (w ∷ ws) q v e = elim (handle_cases q k) [
+  | inl c ↦ (zero, omega arith, same_Some _ _ (sym (get-insert_same (bound ks ws) k w) ∙ ap (get (insert (bound ks ws) k w)) (sym c.0) ∙ e))
+  | inr c ↦ let a = bound-among ks ws q v (sym (get-insert_other (bound ks ws) k w q c.0) ∙ e) in (suc a.0, omega (arith, a.1), a.2)
+]
+
 pub bound-below : (most : ℕ) (ks : List Handle) (ws : List ℕ) (q : Handle) (v : ℕ) → All (λ w. w < most) ws → get (bound ks ws) q ≡ Some v → v < most
-bound-below most [] ws q v all e = absurd (no_some e (get-empty handle_cmp q))
-bound-below most (k ∷ ks) [] q v all e = absurd (no_some e (get-empty handle_cmp q))
-bound-below most (k ∷ ks) (w ∷ ws) q v all e = elim (handle_cases q k) [
+bound-below most ks ws q v all e = let a = bound-among ks ws q v e in subst (λ x. x < most) a.2 (all a.0 0 a.1)
+
+-- where each word is mapped, so is that of each handle
+pub get-bound_map : (f : ℕ → ℕ) (ks : List Handle) (ws : List ℕ) (q : Handle) → get (bound ks (map f ws)) q ≡ option_map f (get (bound ks ws) q)
+get-bound_map f [] ws q = get-empty handle_cmp q ∙ sym (ap (option_map f) (get-empty handle_cmp q))
+get-bound_map f (k ∷ ks) [] q = get-empty handle_cmp q ∙ sym (ap (option_map f) (get-empty handle_cmp q))
+get-bound_map f (k ∷ ks) (w ∷ ws) q = elim (handle_cases q k) [
   | inl c ↦
-      let same : Some w ≡ Some v = sym (get-insert_same (bound ks ws) k w) ∙ ap (get (insert (bound ks ws) k w)) (sym c.0) ∙ e in
-      let is : w ≡ v = cc in
-      subst (λ x. x < most) is (all 0 0 (omega arith))
-  | inr c ↦ bound-below most ks ws q v (λ j d l. all (suc j) d (omega (arith, l))) (sym (get-insert_other (bound ks ws) k w q c.0) ∙ e)
+      ap (get (insert (bound ks (map f ws)) k (f w))) c.0 ∙ get-insert_same (bound ks (map f ws)) k (f w)
+      ∙ sym (ap (option_map f) (ap (get (insert (bound ks ws) k w)) c.0 ∙ get-insert_same (bound ks ws) k w))
+  | inr c ↦ get-insert_other (bound ks (map f ws)) k (f w) q c.0 ∙ get-bound_map f ks ws q ∙ sym (ap (option_map f) (get-insert_other (bound ks ws) k w q c.0))
 ]

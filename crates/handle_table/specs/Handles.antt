@@ -1,6 +1,7 @@
 -- The handles that are held, as a list by index, and the map that they make with their words.
-use Rattle.std.specs.Prelude.{◌≡◌, ◌≢◌, ◌<◌, ℕ, List, [], ◌∷◌, ◌++◌, length, slice_index_or}
+use Rattle.std.specs.Prelude.{◌≡◌, ◌≢◌, ◌<◌, ℕ, List, [], ◌∷◌, ◌++◌, length, slice_index_or, refl}
 use Rattle.std.specs.List.{zip}
+use Rattle.std.specs.Coded.{Coded, code_by, coded×, coded_ℕ, coded_list}
 use Rattle.std.specs.FinMap.{FinMap, from_entries}
 use Rattle.spur_graph.specs.Graph.{Handle, handle_cmp}
 use Rattle.handle_table.specs.declared.index.TheConstants.{MOST_HANDLES}
@@ -36,3 +37,17 @@ Enters old handle Full new = IsAbsent old handle × (length old ≡ MOST_HANDLES
 -- each handle with its word
 abbrev pub bound : List Handle → List ℕ → FinMap handle_cmp ℕ
 bound handles words = from_entries (zip handles words)
+
+-- what contracts see of a table: the handles by index, and the word of each
+pub record Bindings : Type 0 where
+  pub handles : List Handle
+  pub words : List ℕ
+
+-- the word of each handle that is held
+abbrev pub held : Bindings → FinMap handle_cmp ℕ
+held b = bound b.handles b.words
+
+-- the code of a table's value, as a pair
+abbrev pub bindings_code : Coded Bindings
+bindings_code = code_by (List Handle × List ℕ) (coded× (coded_list (coded× coded_ℕ (coded_list coded_ℕ))) (coded_list coded_ℕ))
+    (λ b. (b.handles, b.words)) (λ p. record { handles = p.0; words = p.1 }) (λ _. refl)

@@ -79,3 +79,20 @@ fn handles_are_found_after_others_are_dropped(rt: HostRuntime) -> Result<(), Fai
     assert_eq!(rt; table.len(), 45_536);
     Ok(())
 }
+
+#[test]
+fn words_are_bound_anew_by_index(rt: HostRuntime) -> Result<(), Fail> {
+    let mut table = HandleTable::new(rt.alloc())?;
+    'fill: for number in 0..3 {
+        assert_eq!(rt;
+            table.bind(number as u8, name_of(number), 8 * number as u64),
+            Ok(())
+        );
+    }
+    assert_eq!(rt; table.words(), [0, 8, 16].as_slice());
+    table.put_word(1, 24);
+    assert_eq!(rt; table.words(), [0, 24, 16].as_slice());
+    assert_eq!(rt; table.get(1, &name_of(1)), Some(24));
+    assert_eq!(rt; table.len(), 3);
+    Ok(())
+}

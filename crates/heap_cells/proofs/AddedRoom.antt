@@ -76,7 +76,7 @@ any-has p (y ∷ ys) x k on = elim k [
   | inr m ↦ or_right (p y) (list_any p ys) (any-has p ys x m on)
 ]
 
-any-none : {X : Type 0} (p : X → Bool) (xs : List X) → ((x : X) → In xs x → p x ≡ false) → list_any p xs ≡ false
+pub any-none : {X : Type 0} (p : X → Bool) (xs : List X) → ((x : X) → In xs x → p x ≡ false) → list_any p xs ≡ false
 any-none p [] off = refl
 any-none p (x ∷ xs) off = ap (λ b. b || list_any p xs) (off x (inl refl)) ∙ any-none p xs (λ y m. off y (inr m))
 

@@ -5,15 +5,15 @@ use Rattle.std.specs.List.{find}
 use Rattle.spur_graph.specs.FreeSizes.{among, ascending, without, shortened}
 use Rattle.heap_cells.proofs.Members.{In}
 
-among-front : (n m : ℕ) (xs : List ℕ) → n ≤ m → among n (m ∷ xs) ≡ n ∷ m ∷ xs
+pub among-front : (n m : ℕ) (xs : List ℕ) → n ≤ m → among n (m ∷ xs) ≡ n ∷ m ∷ xs
 unfolding among
 among-front n m xs l = ap (λ b. cond b (n ∷ m ∷ xs) (m ∷ among n xs)) (le-leb n m l)
 
-among-behind : (n m : ℕ) (xs : List ℕ) → m < n → among n (m ∷ xs) ≡ m ∷ among n xs
+pub among-behind : (n m : ℕ) (xs : List ℕ) → m < n → among n (m ∷ xs) ≡ m ∷ among n xs
 unfolding among
 among-behind n m xs l = ap (λ b. cond b (n ∷ m ∷ xs) (m ∷ among n xs)) (lt-leb n m l)
 
-among-last : (n : ℕ) → among n [] ≡ n ∷ []
+pub among-last : (n : ℕ) → among n [] ≡ n ∷ []
 unfolding among
 among-last n = refl
 
@@ -92,7 +92,7 @@ shortened_twice a b size sizes low =
 
 -- ---- the least that passes a test is the first
 
-abbrev Ascends : List ℕ → Type 0
+abbrev pub Ascends : List ℕ → Type 0
 Ascends [] = Unit {0}
 Ascends (x ∷ xs) = ((y : ℕ) → In xs y → x ≤ y) × Ascends xs
 
@@ -123,12 +123,12 @@ ascends_among n (m ∷ xs) up = elim (cases_lt m n) [
   | inl lt ↦ subst Ascends (sym (among-behind n m xs lt)) (λ y k. elim (in_among n xs y k) [ inl e ↦ omega (arith, lt, e) | inr there ↦ up.0 y there ], ascends_among n xs up.1)
 ]
 
-ascending_ascends : (xs : List ℕ) → Ascends (ascending xs)
+pub ascending_ascends : (xs : List ℕ) → Ascends (ascending xs)
 unfolding ascending
 ascending_ascends [] = tt
 ascending_ascends (x ∷ xs) = ascends_among x (ascending xs) (ascending_ascends xs)
 
-in_ascending : (xs : List ℕ) (y : ℕ) → In (ascending xs) y → In xs y
+pub in_ascending : (xs : List ℕ) (y : ℕ) → In (ascending xs) y → In xs y
 unfolding ascending
 in_ascending [] y k = k
 in_ascending (x ∷ xs) y k = elim (in_among x (ascending xs) y k) [ inl e ↦ inl e | inr there ↦ inr (in_ascending xs y there) ]

@@ -90,7 +90,7 @@ in_order words at end (x ∷ cs) c d t m n l =
       ]
     ]
 
-rises : (words : List ℕ) (at end : ℕ) (cs : List Chunk) (i j : ℕ) → InOrder words at end cs → i < j → j < length (starts_of cs) → get_or (starts_of cs) i 0 < get_or (starts_of cs) j 0
+pub rises : (words : List ℕ) (at end : ℕ) (cs : List Chunk) (i j : ℕ) → InOrder words at end cs → i < j → j < length (starts_of cs) → get_or (starts_of cs) i 0 < get_or (starts_of cs) j 0
 rises words at end [] i j t l b = absurd (omega arith)
 rises words at end (c ∷ cs) i zero t l b = absurd (omega arith)
 rises words at end (c ∷ cs) zero (suc j) t l b =

@@ -14,6 +14,7 @@ pub mod Loaded
 pub mod Swept
 pub mod Copied
 pub mod Readdressed
+pub mod ObjectWords
 pub mod Compacted
 pub mod Named
 pub mod Good

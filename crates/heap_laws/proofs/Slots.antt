@@ -34,7 +34,14 @@ module _ (h : Store) (sound : IsSound h) where
         (r.0, r.1, at-named s (h.to (root_slot h r.0)) r.2, eqb-false s (first h 0) (not-true _ parts.0))
   ]
 
-  page_slot : (s j i : ℕ) → j < page_places → h.to (root_slot h j) ≡ Some s → s ≢ first h 0 → i < pointer_count (body_at h s) → is_good_reference h (get_or (body_at h s).words i 0) ≡ true
+  -- a pointer slot of a page is an entry of the class table
+  pub record IsEntry (s i : ℕ) : Type 0 where
+    pub index : ℕ
+    pub below : index < class_limit
+    pub page : has_page h index ≡ true
+    pub word : entry h index ≡ get_or (body_at h s).words i 0
+
+  page_slot : (s j i : ℕ) → j < page_places → h.to (root_slot h j) ≡ Some s → s ≢ first h 0 → i < pointer_count (body_at h s) → IsEntry s i
   page_slot s j i l to apart m = elim (place_cases (sound_loadable h sound) j l) [
     | inl nil ↦ let n = at-named (first h 0) (h.to (root_slot h j)) nil in let same : s ≡ first h 0 = cc in absurd (apart same)
     | inr page ↦
@@ -51,16 +58,22 @@ module _ (h : Store) (sound : IsSound h) where
         let rest : k % page_entries ≡ i = omega (arith, low) in
         let inside : k < class_limit = omega (arith, low, l) in
         let off : is_nil_slot h j ≡ false = ap (is_at (first h 0)) to ∙ ne_eqb s (first h 0) apart in
-        let has : has_page h k ≡ true = λ x. lt-ltb k class_limit inside x && not ((ap (is_nil_slot h) quot ∙ off) x) in
         let at : page_of h k ≡ s = ap (λ n. unwrap_or (h.to (root_slot h n)) h.names) quot ∙ ap (λ o. unwrap_or o h.names) to in
-        let word : entry h k ≡ get_or (body_at h s).words i 0 = ap (λ t. get_or (body_at h t).words (k % page_entries) 0) at ∙ ap (λ n. get_or (body_at h s).words n 0) rest in
-        ap (is_good_reference h) (sym word) ∙ entry-good k has
+        record {
+          index = k;
+          below = inside;
+          page = λ x. lt-ltb k class_limit inside x && not ((ap (is_nil_slot h) quot ∙ off) x);
+          word = ap (λ t. get_or (body_at h t).words (k % page_entries) 0) at ∙ ap (λ n. get_or (body_at h s).words n 0) rest;
+        }
   ]
+
+  pub internal-entry : (s i : ℕ) → is_internal h s ≡ true → s ≢ first h 3 → s ≢ first h 4 → i < pointer_count (body_at h s) → IsEntry s i
+  internal-entry s i on three four l = let r = page_place s on three four in page_slot s r.0 i r.1 r.2 r.3 l
 
   -- a pointer slot of an ordinary object or of a page that is no immediate names what leads to an ordinary object
   pub slot-good : (s i : ℕ) → is_there (h.cell s) ≡ true → s ≢ first h 3 → s ≢ first h 4 → i < pointer_count (body_at h s) → is_immediate_word (get_or (body_at h s).words i 0) ≡ false → is_good_reference h (get_or (body_at h s).words i 0) ≡ true
   slot-good s i there three four l off = elim (cases_Bool (is_internal h s)) [
-    | inl on ↦ let r = page_place s on three four in page_slot s r.0 i r.1 r.2 r.3 l
+    | inl on ↦ let e = internal-entry s i on three four l in ap (is_good_reference h) (sym e.word) ∙ entry-good e.index e.page
     | inr out ↦
         let ordinary : is_ordinary h s ≡ true = λ x. there x && not (out x) in
         let front : (is_ordinary h s && ltb i (pointer_count (body_at h s))) ≡ true = λ x. ordinary x && lt-ltb i (pointer_count (body_at h s)) l x in

@@ -41,14 +41,14 @@ module _ {A B X Y : Type 0} (pp : ℕ → ℕ) (one : (a b : ℕ) → pp a ≡ p
         ap (get (from_entries {R = nat_cmp} (map (λ y. (key' y, G y)) ys))) (ap pp (sym m.2) ∙ r.2) ∙ at ∙ ap (λ u. Some u) (r.3 ∙ ap f m.3)
   ] refl
 
-any_in : {A : Type 0} (key : A → ℕ) (a : ℕ) (xs : List A) → list_any (eq_by_cmp nat_cmp a) (map key xs) ≡ true → (x : A) × In xs x × (key x ≡ a)
+pub any_in : {A : Type 0} (key : A → ℕ) (a : ℕ) (xs : List A) → list_any (eq_by_cmp nat_cmp a) (map key xs) ≡ true → (x : A) × In xs x × (key x ≡ a)
 any_in key a [] e = absurd (false≢true e)
 any_in key a (x ∷ xs) e = elim (or_cases (eq_by_cmp nat_cmp a (key x)) (list_any (eq_by_cmp nat_cmp a) (map key xs)) e) [
   | inl on ↦ (x, inl refl, sym (key_same a (key x) on))
   | inr more ↦ let r = any_in key a xs more in (r.0, inr r.1, r.2)
 ]
 
-in_any : {A : Type 0} (key : A → ℕ) (a : ℕ) (xs : List A) (x : A) → In xs x → key x ≡ a → list_any (eq_by_cmp nat_cmp a) (map key xs) ≡ true
+pub in_any : {A : Type 0} (key : A → ℕ) (a : ℕ) (xs : List A) (x : A) → In xs x → key x ≡ a → list_any (eq_by_cmp nat_cmp a) (map key xs) ≡ true
 in_any key a [] x k e = absurd k
 in_any key a (y ∷ xs) x k e = elim k [
   | inl same ↦ or_left _ _ (same_key a (key y) (sym e ∙ sym (ap key same)))

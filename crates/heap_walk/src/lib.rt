@@ -10,7 +10,8 @@
 //! walk without a fault meets these chunks and ends exactly at the end of the range. [`span_of`]
 //! trusts the first word, and tells where the chunk starts and ends; beside it [`slots_of`] and
 //! [`pointers_of`] read, from the start of a chunk that stands there, how many slots it has and how
-//! many of them are pointers.
+//! many of them are pointers, and [`lead_of`] and [`words_of`] where its words are. [`Saved`] is an
+//! entry of a table of such starts.
 //!
 //! A [`StartMap`] keeps the starts of the chunks as a set, one bit for each word of the region, and
 //! [`mark_starts`] enters those of a whole row, all but the free chunks. Spur has no such map,
@@ -21,11 +22,13 @@
 mod chunk;
 mod marking;
 mod reading;
+mod saved;
 mod starts;
 #[cfg(test)]
 mod tests;
 
 pub use chunk::{Chunk, ChunkKind, next_chunk};
 pub use marking::mark_starts;
-pub use reading::{Span, pointers_of, slots_of, span_of};
+pub use reading::{Span, lead_of, pointers_of, slots_of, span_of, words_of};
+pub use saved::Saved;
 pub use starts::StartMap;

@@ -3,6 +3,7 @@ ghost use Rattle.std.specs.Prelude.{◌≡◌, ◌<◌, ◌≤◌, ◌+◌, ◌^
 ghost use Rattle.object_header.specs.Formats.{pointer_slots_of};
 ghost use Rattle.object_header.specs.Head.{format_of, literals_of};
 ghost use Rattle.object_header.specs.Chunks.{chunk_of, StandsAt, slots_at};
+ghost use Rattle.heap_walk.specs.Shapes.{lead_at, words_at};
 
 use object_header::{Header, OVERFLOW_COUNT, OverflowSlotsField};
 
@@ -61,4 +62,28 @@ pub fn pointers_of(words: &[u64], start: usize) -> usize
 {
     let _end = words.len();
     Header(words[start]).pointer_slots(slots_of(words, start), words[start + 1])
+}
+
+/// How many words of the chunk whose header stands at the word `start` are before the header: one
+/// where it has an overflow word, else none.
+pub fn lead_of(words: &[u64], start: usize) -> usize
+    requires { start < length words.now }
+    ensures value { result ≡ lead_at words.now start }
+    ensures few { result ≤ 1 }
+{
+    if Header(words[start]).count() == OVERFLOW_COUNT {
+        1
+    } else {
+        0
+    }
+}
+
+/// How many words that chunk has, with those before its header.
+pub fn words_of(words: &[u64], start: usize) -> usize
+    requires { StandsAt words.now start }
+    ensures value { result ≡ words_at words.now start }
+    ensures fits { start + result ≤ length words.now + lead_at words.now start }
+{
+    let lead = lead_of(words, start);
+    lead + 1 + slots_of(words, start).max(1)
 }

@@ -98,6 +98,7 @@ module _ (image : Image) (sound : IsSoundImage image) (front region : List ℕ) 
     carried = image.header.carried;
     limits = image.bare.limits;
     phase = Whole;
+    stack = [];
   }
 
   bits : image.header.last_hash % 2 ^ 32 < 2 ^ 32

@@ -1,9 +1,10 @@
 -- What is read of an image, and the errors of its file.
-use Rattle.std.proofs.Common.{◌≡◌, ℕ, List, take, sym, ap, ◌∙◌, subst}
+use Rattle.std.proofs.Common.{◌≡◌, ℕ, List, take, length, vec_capacity, sym, ap, ◌∙◌, subst}
 use Rattle.std.specs.List.{flat_map}
 use Rattle.spur_graph.specs.declared.limits.Limits.{Limits}
 use Rattle.spur_graph.specs.Segments.{Segment, segments, segment_words, all_words, total_words}
 use Rattle.spur_heap.specs.declared.bare.Bare.{Bare}
+use Rattle.spur_heap.specs.Tables.{HasPlaces, HasEmptyTables}
 use Rattle.image_file.specs.Passed.{Passes}
 use Rattle.image_file.specs.Errors.{IsFault, IsCauseOf}
 use Rattle.image_file.specs.Whole.{IsFrontOf, last_row}
@@ -25,6 +26,17 @@ image_of bytes limits f bare same front words = record {
   map_is = front.map_is;
   words_are = words ∙ all_are bytes f.map front.map_is;
   passes = subst (λ l. Passes bytes l last_row) (sym same) front.passes;
+}
+
+-- the tables of places stay while the words are read
+pub still_empty : (bare : Bare) (words : List ℕ) → length words ≡ length bare.region → HasEmptyTables bare → HasEmptyTables (record bare { region = words })
+still_empty bare words long tables = record {
+  no_mourners = tables.no_mourners;
+  mourner_places = subst (λ n. HasPlaces n (vec_capacity bare.mourners)) (sym long) tables.mourner_places;
+  no_marks = tables.no_marks;
+  mark_places = subst (λ n. HasPlaces n (vec_capacity bare.marks)) (sym long) tables.mark_places;
+  saved = tables.saved;
+  some_saved = tables.some_saved;
 }
 
 -- a fault of the store tells of no cause

@@ -1,6 +1,5 @@
 -- An image as it was read, and its objects once they are settled.
 use Rattle.std.specs.Prelude.{ℕ, ◌≡◌, ◌≢◌, ◌+◌, ◌*◌, ◌<◌, ◌≤◌, List, length, take, true, false}
-use Rattle.std.specs.FinMap.{empty}
 use Rattle.heap_walk.specs.Starts.{has_start, covered}
 use Rattle.spur_graph.specs.ImageFile.{header_bytes, special_word, last_hash}
 use Rattle.spur_graph.specs.Segments.{Segment, segments, all_words, total_words}
@@ -15,6 +14,7 @@ use Rattle.spur_graph.specs.FileStores.{file_store}
 use Rattle.image_settle.specs.Rooms.{IsAlone}
 use Rattle.image_file.specs.Passed.{Passes}
 use Rattle.image_file.specs.Whole.{last_row}
+use Rattle.spur_heap.specs.Tables.{HasEmptyTables, IsUnbound}
 use Rattle.image_load.specs.declared.image.Image.{Image}
 
 -- what was read is of these bytes, to which no cause before those of objects applies
@@ -36,7 +36,8 @@ pub record IsSoundImage (image : Image) : Type 0 where
   pub few : length image.bare.region ≤ most_words
   pub covers : covered image.bare.starts ≡ length image.bare.region
   pub unmarked : (s : ℕ) → has_start image.bare.starts s ≡ false
-  pub unbound : image.bare.handles ≡ empty
+  pub unbound : IsUnbound image.bare
+  pub tables : HasEmptyTables image.bare
 
 -- the words of an image's objects are settled, and the special objects reference is this word of the heap; `mid` are the words with their
 -- forwarders resolved

@@ -46,7 +46,7 @@ module _ (s : State) (k : ℕ) (o : Text) (x : Value) (is : held s.graph k o ≡
 -- ---- what is done
 
 -- a heap that stands for a graph and a room has them, under its own names
-stood : (new : View) (g : Graph) (room : Room) (s : State) → Stands new g room → Renamed (record s { graph = g; room = room }) (over new s)
+pub stood : (new : View) (g : Graph) (room : Room) (s : State) → Stands new g room → Renamed (record s { graph = g; room = room }) (over new s)
 unfolding graph_of room_of
 stood new g room s is = record {
   p = is.place;

@@ -4,6 +4,7 @@ pub mod Rows
 pub mod Doing
 pub mod Settled
 pub mod Changed
+pub mod Collected
 pub mod Unsettled
 pub mod Written
 pub mod Objects

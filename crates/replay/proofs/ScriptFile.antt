@@ -65,6 +65,8 @@ chosen s t k (Save name) answer passes saves = record {
   script = ap (λ (u : State). u.script) saves.rest;
   file = saves.others s.script (other_name (bytes_eq name s.script) s.script name refl passes.0);
 }
+chosen s t k Gc answer passes collects = record { script = ap (λ (u : State). u.script) collects.rest; file = ap (λ (u : State). u.files s.script) collects.rest }
+chosen s t k (Mourn h) answer passes mourns = record { script = ap (λ (u : State). u.script) mourns.becomes; file = ap (λ (u : State). u.files s.script) mourns.becomes }
 chosen s t k form answer passes chooses = absurd chooses
 
 does_keep : (s t : State) (k : ℕ) (form : Form) (answer : Answer) → Passes s k form → Does s k form answer t → KeepsScript s t

@@ -1,5 +1,6 @@
 pub mod Sessions
 pub mod Commands
+pub mod Options
 pub mod Runs
 pub mod Answered
 pub mod Stops

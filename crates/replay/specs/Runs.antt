@@ -1,5 +1,5 @@
 -- What a run of the program puts, by its status.
-use Rattle.std.specs.Prelude.{◌≡◌, ◌≢◌, ◌≤◌, ◌<◌, ◌⊎◌, ℕ, ◌^◌, List, [], ◌∷◌, ◌++◌, take, length, slice_index, codes, Bool, true, false, Option, Some, None}
+use Rattle.std.specs.Prelude.{◌≡◌, ◌≤◌, ◌<◌, ◌⊎◌, ℕ, ◌^◌, List, [], ◌∷◌, ◌++◌, take, length, slice_index, codes, Bool, true, false, Option, Some, None}
 use Rattle.std.specs.List.{flat_map}
 use Rattle.spur_io.specs.Causes.{Rose}
 use Rattle.spur_graph.specs.declared.answer.Answer.{Answer}
@@ -7,7 +7,6 @@ use Rattle.spur_graph.specs.Bytes.{Text}
 use Rattle.spur_graph.specs.declared.limits.Limits.{Limits}
 use Rattle.spur_graph.specs.State.{State, Files}
 use Rattle.spur_graph.specs.Step.{Renamed, Run}
-use Rattle.spur_graph.specs.Words.{number_in}
 use Rattle.spur_graph.specs.Lines.{lines_of, ended_lines_of}
 use Rattle.spur_graph.specs.Text.{answer_line}
 use Rattle.spur_graph.specs.Heaps.{Whole}
@@ -15,6 +14,7 @@ use Rattle.spur_graph.specs.ImageFile.{header_bytes}
 use Rattle.spur_graph.specs.LoadedGraph.{loaded_graph, loaded_room}
 use Rattle.spur_graph.specs.ImageCauses.{Cause, FirstCause, IsAccepted, cause_line}
 use Rattle.replay.specs.Sessions.{SessionView, IsStateOf, StopsAtSave}
+use Rattle.replay.specs.Options.{AskFor}
 use Rattle.replay.specs.declared.runs.Status.{Status}
 use Rattle.replay.specs.declared.runs.Status.TheVariants as status
 
@@ -33,38 +33,13 @@ pub record IsCall (words : List Text) (image script : Text) : Type 0 where
   pub image_path : IsPath image
   pub script_path : IsPath script
 
--- the words of room where no option tells them, and the most
-abbrev pub default_room : ℕ
-default_room = 2 ^ 20
-
-abbrev pub most_room : ℕ
-most_room = 2 ^ 26
-
--- no room, or enough for a free chunk
-abbrev pub IsRoom : ℕ → Type 0
-IsRoom room = (room ≢ 1) × (room ≤ most_room)
-
--- `--room` and a number
-pub record TellsRoom (options : List Text) (room : ℕ) : Type 0 where
-  pub text : Text
-  pub are : options ≡ codes "--room" ∷ text ∷ []
-  pub number : number_in text ≡ Some room
-  pub good : IsRoom room
-
--- the options ask for so many words of room
-abbrev pub AsksRoom : List Text → ℕ → Type 0
-AsksRoom options room = ((options ≡ []) × (room ≡ default_room)) ⊎ TellsRoom options room
-
 -- the words `replay IMAGE SCRIPT` and options behind them, which ask for these limits
 pub record IsReplay (words : List Text) (image script : Text) (limits : Limits) : Type 0 where
   pub front : List Text
   pub options : List Text
   pub are : words ≡ front ++ options
   pub call : IsCall front image script
-  pub asks : AsksRoom options limits.room
-  pub no_eden : limits.eden ≡ 0
-  pub no_survivor : limits.survivor ≡ 0
-  pub saved : limits.saved ≡ 4096
+  pub asks : AskFor options limits
 
 -- the words are in no form that the program knows
 abbrev pub IsMisused : List Text → Type 0

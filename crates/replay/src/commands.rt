@@ -2,10 +2,12 @@
 ghost use Rattle.std.specs.Prelude.{◌≡◌, false, IfOk, OnErr};
 ghost use Rattle.std.specs.Result.{result_err};
 ghost use Rattle.spur_graph.specs.Form.{view};
+ghost use Rattle.spur_graph.specs.Heaps.{Whole};
 ghost use Rattle.replay.specs.Commands.{FirstRefusal, Obeys, Keeps, Same, saves};
 ghost use Rattle.replay.specs.Writes.{Writes};
 
 use crate::changing::{exchange_objects, forward_object, pin_object, protect, unpin_object};
+use crate::collecting::{collect_dead, mourn_one};
 use crate::handles::unbind;
 use crate::making::{enter_class, hash, make, stat};
 use crate::settling::settle_handles;
@@ -17,7 +19,8 @@ use spur_heap::{Heap, Space};
 
 /// What a command is answered that touches no file, or the first refusal that applies, which changes nothing.
 fn carry_out(heap: &mut Heap, mutator: u8, command: &Command) -> Result<Answer, Refusal>
-    requires { saves (view command.now) ≡ false }
+    requires stays { saves (view command.now) ≡ false }
+    requires whole { heap.old.phase ≡ Whole }
     ensures refusal { FirstRefusal heap.old mutator (view command.now) (result_err result) }
     ensures done { IfOk result (λ answer. Obeys heap.old mutator (view command.now) answer heap.new) }
     ensures words { Writes heap.old heap.new mutator (view command.now) }
@@ -57,11 +60,11 @@ fn carry_out(heap: &mut Heap, mutator: u8, command: &Command) -> Result<Answer, 
         Command::Unpin { o } => unpin_object(heap, mutator, o),
         Command::ReadOnly { o } => protect(heap, mutator, o, true),
         Command::Writable { o } => protect(heap, mutator, o, false),
-        Command::Scavenge
-        | Command::Gc
-        | Command::Mourn { .. }
-        | Command::SegStore { .. }
-        | Command::SegLoad { .. } => Err(Refusal::Unsupported),
+        Command::Gc => Ok(collect_dead(heap, mutator)),
+        Command::Mourn { h } => mourn_one(heap, mutator, h),
+        Command::Scavenge | Command::SegStore { .. } | Command::SegLoad { .. } => Err(
+            Refusal::Unsupported,
+        ),
         Command::Save { .. } => unreachable!(),
     }
 }
@@ -69,7 +72,8 @@ fn carry_out(heap: &mut Heap, mutator: u8, command: &Command) -> Result<Answer, 
 /// What a command is answered that touches no file, or the first refusal that applies, which changes neither graph nor room. The handles that it reads are
 /// rewritten first to where they lead, if anything was forwarded.
 pub(crate) fn obey(heap: &mut Heap, mutator: u8, command: &Command) -> Result<Answer, Refusal>
-    requires { saves (view command.now) ≡ false }
+    requires stays { saves (view command.now) ≡ false }
+    requires whole { heap.old.phase ≡ Whole }
     ensures refusal { FirstRefusal heap.old mutator (view command.now) (result_err result) }
     ensures done { IfOk result (λ answer. Obeys heap.old mutator (view command.now) answer heap.new) }
     ensures words { Writes heap.old heap.new mutator (view command.now) }

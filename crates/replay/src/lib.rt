@@ -9,18 +9,18 @@
 #![tactic(auto)]
 
 mod changing;
+mod collecting;
 mod commands;
 mod halts;
 mod handles;
 mod lines;
 mod making;
+mod options;
 mod runs;
 mod saving;
 mod session;
 mod settling;
 mod slots;
-#[cfg(test)]
-mod tests;
 mod values;
 
 pub use runs::{Status, run};

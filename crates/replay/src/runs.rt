@@ -8,16 +8,17 @@ ghost use Rattle.spur_graph.specs.Words.{number_in};
 ghost use Rattle.image_load.specs.Loaded.{AreLimits};
 ghost use Rattle.replay.specs.declared.runs.Status.TheVariants.{Refused};
 ghost use Rattle.replay.specs.Sessions.{SameRun, IsAt, WhereTold};
-ghost use Rattle.replay.specs.Runs.{IsPath, IsRoom, AsksRoom, IsCall, IsReplay, IsMisused, Outcome, Judges, Counts, KeepsFiles, IsLeft};
+ghost use Rattle.replay.specs.Runs.{IsPath, IsCall, IsReplay, IsMisused, Outcome, Judges, Counts, KeepsFiles, IsLeft};
 ghost use Rattle.replay.specs.Answered.{ScriptRun};
 ghost use Rattle.replay.specs.LineRuns.{LineRun, BehindRun, PieceRun, EndRun, EndsBy, StopCause};
 ghost use Rattle.replay.specs.Stops.{IsPut, IsRefusing, status_of};
 
 use crate::lines::{OpenLine, cut_line};
+use crate::options::limits_of;
 use crate::session::{Fault, Session};
 use arrayvec::ArrayVec;
 use image_load::LoadError;
-use script_text::{number_of, write_answer};
+use script_text::write_answer;
 use spur_graph::Limits;
 use spur_io::{FileFault, Files, Sink, SinkFault};
 use std::alloc::Global;
@@ -30,15 +31,6 @@ type AnswerText = ArrayVec<u8, 256>;
 
 /// Bytes of the script that are read at once.
 const PIECE_BYTES: usize = 4_096;
-
-/// Words of room where no option tells them.
-const DEFAULT_ROOM: usize = 1 << 20;
-
-/// The most words of room.
-const MOST_ROOM: usize = 1 << 26;
-
-/// Entries of the table that keeps first fields aside during a compaction.
-const SAVED_FIELDS: usize = 4_096;
 
 const USAGE: &str =
     "usage: spur replay IMAGE SCRIPT [--eden W] [--survivor W] [--room W] [--saved W] | spur drill START LINES\n";
@@ -371,30 +363,6 @@ fn paths_of(words: &[String]) -> Option<(&str, &str)>
     }
 }
 
-/// The words of room that a text tells; none where it tells no number, 1, or too great a one.
-fn told_room(text: &str) -> Option<usize>
-    ensures some { IfSome result (λ room. (number_in text.now ≡ Some room) × IsRoom room) }
-    ensures none { IfNone result ((room : ℕ) → number_in text.now ≡ Some room → IsRoom room → ⊥) }
-{
-    let room = number_of(text.as_bytes())?;
-    if room == 1 || room > MOST_ROOM as u128 {
-        return None;
-    }
-    Some(room as usize)
-}
-
-/// The words of room that options ask for; none where there are other words among them.
-fn room_of(options: &[String]) -> Option<usize>
-    ensures some { IfSome result (AsksRoom (map string_bytes options.now)) }
-    ensures none { IfNone result ((room : ℕ) → AsksRoom (map string_bytes options.now) room → ⊥) }
-{
-    match options {
-        [] => Some(DEFAULT_ROOM),
-        [option, room] if option.as_str() == "--room" => told_room(room.as_str()),
-        _ => None,
-    }
-}
-
 /// What the words `replay IMAGE SCRIPT` and their options ask for; none where the words are others.
 fn request_of(words: &[String]) -> Option<Request>
     ensures some { IfSome result (λ r. IsReplay (map string_bytes words.now) r.image.now r.script.now r.limits) }
@@ -403,13 +371,7 @@ fn request_of(words: &[String]) -> Option<Request>
 {
     let (paths, options) = words.split_at(words.len().min(3));
     let (image, script) = paths_of(paths)?;
-    let room = room_of(options)?;
-    let limits = Limits {
-        eden: 0,
-        survivor: 0,
-        room,
-        saved: SAVED_FIELDS,
-    };
+    let limits = limits_of(options)?;
     Some(Request {
         image,
         script,
@@ -420,8 +382,9 @@ fn request_of(words: &[String]) -> Option<Request>
 /// Runs the program with these words, which are without its name: `replay IMAGE SCRIPT` loads the image and answers the script's
 /// lines, one by one, while it reads the script. Each answer is put before more of the script is read (tested, no clause).
 ///
-/// Behind these words may stand `--room` and a number of words, 0 or 2 to 2^26: as much room as the heap has for further objects, 2^20
-/// words where it is not told.
+/// Behind these words may stand, each at most once and in any order, `--room` and a number of words, 0 or 2 to 2^26: as much room as the heap
+/// has for further objects, 2^20 words where it is not told; and `--saved` and a number of entries, 1 to 2^24: so many objects a full
+/// collection moves in one pass, 4,096 where it is not told.
 ///
 /// A line may save the heap, under any name but the script's; no other file changes, and none does where the words are misused or the image is refused. A save
 /// that meets a fault ends the run: its file is then as it was or a front of the image, and the answers of all lines before it were put.

@@ -92,6 +92,7 @@ fn try_line<F: Files>(
     files: &mut F,
     bytes: &[u8],
 ) -> Result<Answer, Halt>
+    requires whole { heap.old.phase ≡ Whole }
     ensures replies { IfOk (answered result) (λ answer. Replies heap.old script.now (F.told files.old) bytes.now answer heap.new (F.told files.new)) }
     ensures stops { OnErr (answered result) (WhereTold (F.told files.old) (F.told files.new) (HeapStops heap.old script.now bytes.now)) }
     ensures same { OnErr (answered result) (heap.new ≡ heap.old) }
@@ -117,6 +118,7 @@ fn step<F: Files>(
     files: &mut F,
     bytes: &[u8],
 ) -> Result<Answer, Fault>
+    requires whole { heap.old.phase ≡ Whole }
     ensures answer { IfOk result (λ answer. Steps heap.old script.now (F.told files.old) bytes.now answer heap.new (F.told files.new)) }
     ensures stops { OnErr result (WhereTold (F.told files.old) (F.told files.new) (HeapStops heap.old script.now bytes.now)) }
     ensures same { OnErr result (heap.new ≡ heap.old) }

@@ -10,6 +10,9 @@ use std::alloc::AllocError;
 use std::process::ExitCode;
 use std::{env, io};
 
+#[cfg(test)]
+mod tests;
+
 /// The exit status of a run.
 fn code(status: Status) -> u8 {
     match status {

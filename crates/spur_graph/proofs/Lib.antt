@@ -9,3 +9,6 @@ pub mod RowNumbers
 pub mod MappedValues
 pub mod Classed
 pub mod Refusing
+pub mod Reaching
+pub mod Lives
+mod Plans

@@ -10,7 +10,7 @@ use Rattle.spur_graph.specs.declared.answer.Refusal.TheVariants as r
 use Rattle.spur_graph.specs.Node.{Node}
 use Rattle.spur_graph.specs.Graph.{held, blank}
 use Rattle.spur_graph.specs.Words.{words_of, name_in, number_in}
-use Rattle.spur_graph.specs.Form.{Special, Fetch, Kind, Gc}
+use Rattle.spur_graph.specs.Form.{Special, Fetch, Kind, Scavenge}
 use Rattle.spur_graph.specs.Rows.{IsCommand, row_special, row_fetch, row_kind}
 use Rattle.spur_graph.specs.Lines.{lines_of, ended_lines_of, open_line_of}
 use Rattle.spur_graph.specs.Text.{answer_line, answer_text, shown_text, refusal_text}
@@ -71,7 +71,7 @@ of_number s is = rw (is) refl
 not_held : (s : State) → held s.graph 0 (codes "q") ≡ None → refused s 0 (Kind (codes "q")) ≡ Some r.Unknown
 not_held s is = rw (is) refl
 
-not_served : (s : State) → refused s 0 Gc ≡ Some r.Unsupported
+not_served : (s : State) → refused s 0 Scavenge ≡ Some r.Unsupported
 not_served s = refl
 
 object_line : answer_line (answers.Shown (shows.Object 32 1)) ≡ codes "object 32 1\n"

@@ -7,7 +7,7 @@ use Rattle.spur_graph.specs.declared.answer.Value.TheVariants as values
 use Rattle.spur_graph.specs.declared.answer.Answer.{Answer}
 use Rattle.spur_graph.specs.declared.answer.Answer.TheVariants as answers
 use Rattle.spur_graph.specs.Bytes.{Text}
-use Rattle.spur_graph.specs.Form.{Form, Special, Nil, Yes, No, Int, Char, Float, Copy, Drop, Kind, Class, Size, Fetch, Store, Unit, SetUnit, Same, New, NewOld, Enter, Hash, Become, Forward, Pin, Unpin, ReadOnly, Writable, Save, Stat}
+use Rattle.spur_graph.specs.Form.{Form, Special, Nil, Yes, No, Int, Char, Float, Copy, Drop, Kind, Class, Size, Fetch, Store, Unit, SetUnit, Same, New, NewOld, Enter, Hash, Become, Forward, Pin, Unpin, ReadOnly, Writable, Gc, Mourn, Save, Stat}
 use Rattle.spur_graph.specs.Value.{same_value}
 use Rattle.spur_graph.specs.State.{State, with_graph, bound, dropped, with_changed, made, value_at, name_at, node_of_handle, slots_asked, words_asked}
 use Rattle.spur_graph.specs.Room.{Room, page_words, with_page}
@@ -19,6 +19,7 @@ use Rattle.spur_graph.specs.Ordinary.{page_entries}
 use Rattle.spur_graph.specs.Shows.{shown, stat_of}
 use Rattle.spur_graph.specs.Classes.{class_value}
 use Rattle.spur_graph.specs.Saves.{Saves}
+use Rattle.spur_graph.specs.Collections.{Collects, Mourns}
 
 -- an answer and the state after it
 abbrev pub Outcome : Type 0
@@ -78,9 +79,12 @@ abbrev pub Is : Option Outcome → Answer → State → Type 0
 Is None answer new = ⊥
 Is (Some o) answer new = (answer ≡ o.0) × (new ≡ o.1)
 
--- the answers and states among which a command chooses, where the state leaves it a choice: a save chooses among the texts that denote the graph
+-- the answers and states among which a command chooses, where the state leaves it a choice: a save chooses among the texts that denote the graph, a full
+-- collection among the orders of a group and the free chunks behind it, and `mourn` among the names of the earliest group
 abbrev pub Chooses : State → ℕ → Form → Answer → State → Type 0
 Chooses old k (Save name) answer new = Saves old name answer new
+Chooses old k Gc answer new = Collects old answer new
+Chooses old k (Mourn h) answer new = Mourns old k h answer new
 Chooses old k form answer new = ⊥
 
 -- what a command may answer, and the state that it may lead to: the one that is determined, or one of those among which it chooses

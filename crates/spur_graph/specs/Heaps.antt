@@ -1,7 +1,7 @@
 -- What a heap stands for. Its words have a reference as 8 times a start, and the names of its graph are the starts themselves.
 use Rattle.std.specs.Prelude.{ℕ, ◌≡◌, ◌≢◌, ◌<◌, ◌≤◌, ◌*◌, ◌/◌, ◌%◌, ◌^◌, List, [], length, slice_index, map, Bool, true, false, if◌then◌else◌, nat_eq, nat_le, nat_lt, Option, Some, None}
 use Rattle.std.specs.List.{All, Contains, flat_map}
-use Rattle.std.specs.FinMap.{FinMap, get, entries, from_entries}
+use Rattle.std.specs.FinMap.{FinMap, get, entries, from_entries, retain_keys}
 use Rattle.object_header.specs.Field.{field_of}
 use Rattle.object_header.specs.Fields.{fields_of}
 use Rattle.spur_graph.specs.declared.answer.Value.{Value}
@@ -25,8 +25,8 @@ pub data Phase : Type 0 where
   Marked : Phase
 
 -- what contracts see of a heap: its words, where its spaces are, the starts of its mourners in groups, the words of handles, the special objects word,
--- the hash state, the bytes of its image's header, its limits, and its phase. The start map, the free lists and the remembered table are told by the
--- words
+-- the hash state, the bytes of its image's header, its limits, its phase, and the starts on the mark stack, the latest last, of which nothing is asked. The
+-- start map, the free lists and the remembered table are told by the words
 pub record View : Type 0 where
   pub words : List ℕ
   pub spaces : Spaces
@@ -37,6 +37,7 @@ pub record View : Type 0 where
   pub carried : List ℕ
   pub limits : Limits
   pub phase : Phase
+  pub stack : List ℕ
 
 -- a reference of a heap is 8 times a start
 abbrev pub heap_to : ℕ → Option ℕ
@@ -196,6 +197,10 @@ graph_in h special held groups hash next = record (graph_of own_name h special (
 -- the graph whose names are the starts
 abbrev pub heap_graph : View → Graph
 heap_graph v = graph_in (store_of v) v.special v.handles v.mourners v.hash (length v.words)
+
+-- the graph without the nodes that are not marked
+abbrev pub marked_graph : View → Graph
+marked_graph v = record (heap_graph v) { nodes = retain_keys (heap_graph v).nodes (is_marked v.words) }
 
 -- the room of the words
 abbrev pub heap_room : View → Room

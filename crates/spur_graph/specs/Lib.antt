@@ -4,6 +4,7 @@ pub mod Graph
 pub mod Handles
 pub mod Names
 pub mod FreeSizes
+pub mod Planned
 pub mod Room
 pub mod Serve
 pub mod Become
@@ -27,6 +28,9 @@ pub mod Rows
 pub mod Lines
 pub mod Text
 pub mod State
+pub mod Live
+pub mod Rounds
+pub mod Collections
 pub mod Refusals
 pub mod Refused
 pub mod Shows

@@ -39,6 +39,10 @@ first (Some refusal ∷ row) = Some refusal
 abbrev pub unknown : Graph → ℕ → List Text → Option Refusal
 unknown g k names = test (list_any (λ h. is_none (held g k h)) names) r.Unknown
 
+-- nothing mourns
+abbrev pub no_mourner : Graph → Option Refusal
+no_mourner g = test (length g.mourners == 0) r.NoMourner
+
 -- how many handles all mutators hold together at most
 abbrev pub most_handles : ℕ
 most_handles = 65536

@@ -4,11 +4,11 @@ use Rattle.spur_graph.specs.declared.answer.Refusal.{Refusal}
 use Rattle.spur_graph.specs.declared.answer.Refusal.TheVariants as r
 use Rattle.spur_graph.specs.Graph.{Graph}
 use Rattle.spur_graph.specs.Bytes.{Text}
-use Rattle.spur_graph.specs.Form.{Form, Special, Nil, Yes, No, Int, Char, Float, Copy, Drop, Kind, Class, Size, Fetch, Store, Unit, SetUnit, Same, New, NewOld, Enter, Hash, Become, Forward, Pin, Unpin, ReadOnly, Writable, Save, Stat}
+use Rattle.spur_graph.specs.Form.{Form, Special, Nil, Yes, No, Int, Char, Float, Copy, Drop, Kind, Class, Size, Fetch, Store, Unit, SetUnit, Same, New, NewOld, Enter, Hash, Become, Forward, Pin, Unpin, ReadOnly, Writable, Gc, Mourn, Save, Stat}
 use Rattle.spur_graph.specs.State.{State, name_at, node_of_handle, words_asked}
 use Rattle.spur_graph.specs.Serve.{Source, Anywhere, OldAlone}
 use Rattle.spur_graph.specs.Hashes.{free_index}
-use Rattle.spur_graph.specs.Refusals.{Row, first, unknown, handles, immediate, raw_read, raw_write, raw_unit, index_in, readonly, unit_range, int_range, char_range, float_range, special, no_class, no_size, unserved, has_hash, no_index, no_page, pinned, mourning, classed, no_piece, no_old_words, is_script}
+use Rattle.spur_graph.specs.Refusals.{Row, first, unknown, handles, immediate, raw_read, raw_write, raw_unit, index_in, readonly, unit_range, int_range, char_range, float_range, special, no_class, no_size, unserved, has_hash, no_index, no_page, pinned, mourning, classed, no_piece, no_old_words, no_mourner, is_script}
 
 -- of a command that binds `h` and reads these handles
 abbrev pub binds : Graph → ℕ → Text → List Text → Row → Row
@@ -60,6 +60,8 @@ row s k (Pin o) = unknown s.graph k (o ∷ []) ∷ immediate s.graph k (o ∷ []
 row s k (Unpin o) = unknown s.graph k (o ∷ []) ∷ immediate s.graph k (o ∷ []) ∷ []
 row s k (ReadOnly o) = unknown s.graph k (o ∷ []) ∷ immediate s.graph k (o ∷ []) ∷ []
 row s k (Writable o) = unknown s.graph k (o ∷ []) ∷ immediate s.graph k (o ∷ []) ∷ []
+row s k Gc = []
+row s k (Mourn h) = binds s.graph k h [] (no_mourner s.graph ∷ [])
 row s k (Save name) = is_script s.script name ∷ []
 row s k Stat = []
 row s k form = Some r.Unsupported ∷ []

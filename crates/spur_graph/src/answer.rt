@@ -96,6 +96,15 @@ pub enum Refusal {
     },
 }
 
+/// What a collection counts.
+#[derive(Clone, Copy, Debug, PartialEq, Eq)]
+pub struct Counts {
+    /// The weak slots that became nil.
+    pub nilled: u64,
+    /// The ephemerons that fired.
+    pub fired: u64,
+}
+
 /// What a line is answered.
 #[derive(Clone, Copy, Debug, PartialEq, Eq)]
 pub enum Answer {

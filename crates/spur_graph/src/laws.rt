@@ -4,6 +4,7 @@ ghost use Rattle.std.specs.List.{All};
 ghost use Rattle.spur_graph.specs.declared.answer.Value.{Value};
 ghost use Rattle.spur_graph.specs.Graph.{Graph, held, bind};
 ghost use Rattle.spur_graph.specs.Names.{Iso};
+ghost use Rattle.spur_graph.specs.Live.{LiveByRules};
 
 /// What was bound last is held.
 pub fn handle_bound()
@@ -13,6 +14,11 @@ pub fn handle_bound()
 /// A graph differs from itself in no name.
 pub fn keeps_names()
     ensures { (g : Graph) → Iso g g (λ a. a) (λ a. a) }
+{}
+
+/// What stands in a derivation is what the rules reach.
+pub fn live_by_rules()
+    ensures { LiveByRules }
 {}
 
 /// A word has 64 bits.

@@ -13,9 +13,9 @@ mod laws;
 mod layout;
 mod limits;
 
-pub use answer::{Answer, Full, Refusal, SegmentCause, Shown, Stat, Value};
+pub use answer::{Answer, Counts, Full, Refusal, SegmentCause, Shown, Stat, Value};
 pub use command::{Command, FileName, HandleName, Line};
-pub use laws::{handle_bound, keeps_names, words_fit};
+pub use laws::{handle_bound, keeps_names, live_by_rules, words_fit};
 pub use layout::{
     BRIDGE_BYTES, FORWARDER_FORMAT, FREE_LISTS, GREATEST_BASE, GREATEST_END, HEADER_BYTES,
     HIDDEN_ROOTS, HIDDEN_ROOTS_SLOTS, PAGE_ENTRIES, PAGE_PLACES, SPUR_FORMAT,

@@ -1,15 +1,14 @@
 -- The tables that are made of the words of a heap.
-use Rattle.std.proofs.Common.{◌≡◌, ℕ, Bool, true, false, not, cond, ◌&&◌, ◌||◌, ◌+◌, eqb, List, [], ◌∷◌, length, get_or, refl, sym, ap, ◌∙◌, subst, arith, inl, inr}
+use Rattle.std.proofs.Common.{◌≡◌, ℕ, Bool, true, false, not, cond, ◌&&◌, ◌||◌, ◌+◌, eqb, List, [], ◌∷◌, length, get_or, refl, sym, ap, ◌∙◌, arith, inl, inr}
 use Rattle.std.proofs.lemmas.Bool.{cases_Bool}
 use Rattle.std.specs.List.{filter}
 use Rattle.object_header.specs.Fields.{Fields, fields_of}
-use Rattle.object_header.specs.Chunks.{Chunk, InOrder, row, slots_of, starts_in}
+use Rattle.object_header.specs.Chunks.{Chunk, row, slots_of, starts_in}
 use Rattle.heap_walk.specs.Starts.{has_start, covered}
 use Rattle.heap_walk.specs.declared.starts.StartMap.{StartMap}
 use Rattle.spur_graph.specs.Cells.{Store, is_start, is_there, cell_in, cell_from, read_cell, start_named}
 use Rattle.spur_graph.specs.Ordinary.{is_internal, is_ordinary, ordinary_starts}
-use Rattle.spur_graph.specs.Spaces.{old_row}
-use Rattle.spur_graph.specs.Heaps.{View, IsWhole, store_of, chunks_of, heap_to}
+use Rattle.spur_graph.specs.Heaps.{View, store_of, heap_to}
 use Rattle.heap_cells.specs.Rows.{starts_of}
 use Rattle.heap_cells.proofs.Cutting.{cell-at}
 use Rattle.heap_cells.proofs.Internals.{internal-starts}
@@ -20,9 +19,10 @@ use Rattle.free_lists.specs.Rows.{free_runs}
 use Rattle.free_lists.specs.Lists.{Lists}
 use Rattle.free_lists.specs.declared.lists.FreeLists.{FreeLists}
 use Rattle.spur_heap.specs.declared.heap.HeapParts.{HeapParts}
-use Rattle.spur_heap.specs.Counting.{is_object_header, one_new, count_new}
-use Rattle.spur_heap.specs.Parts.{view_of, ArePartsOfHeap}
+use Rattle.spur_heap.specs.Counting.{is_object_header, count_new}
+use Rattle.spur_heap.specs.Parts.{view_of, HasTables, ArePartsOfHeap}
 use Rattle.spur_heap.specs.Views.{Adopts}
+use Rattle.spur_heap.proofs.Tables.{tables_kept}
 use Rattle.spur_heap.proofs.Rebuilt.{Rebuilds, in_row, rows_before, cells_rebuilt, rebuilt_whole, rebuilt_graph, rebuilt_room, rebuilt_count, rebuilt_lists, rebuilt_others}
 
 there_from : (f : Fields) (next : ℕ) (ws : List ℕ) → is_there (cell_from f next ws) ≡ (not (eqb f.class 0) && not (eqb f.class 8))
@@ -59,6 +59,7 @@ pub record Makes (p : HeapParts) (one two : StartMap) (n : ℕ) (free : FreeList
   pub covers : covered two ≡ length p.region
   pub count : n ≡ count_new p.region one (row p.region 0 p.old_end)
   pub lists : Lists new free (free_runs p.region (row p.region 0 p.old_end))
+  pub tables : HasTables p
 
 module _ {p : HeapParts} {one two : StartMap} {n : ℕ} {free : FreeLists} {new : List ℕ} (k : Makes p one two n free new) where
   abbrev v : View
@@ -96,6 +97,7 @@ module _ {p : HeapParts} {one two : StartMap} {n : ℕ} {free : FreeLists} {new 
     };
     free_chunks = record { lists = rebuilt_lists k.rebuilds free k.lists };
     objects = record { count = counted ∙ sym (rebuilt_count k.rebuilds) };
+    tables = tables_kept p made k.tables k.rebuilds.long refl;
   }
 
   pub made_adopts : Adopts v (view_of made)

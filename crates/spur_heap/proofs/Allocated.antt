@@ -1,15 +1,10 @@
 -- The parts of a heap once an object is made: they stand for a heap, which is the one before with the object.
-use Rattle.std.proofs.Common.{◌≡◌, ℕ, ◌+◌, ◌<◌, ◌≤◌, ◌^◌, List, [], ◌∷◌, length, get_or, sym, ap, ◌∙◌, subst, arith, Some, None, Option, MatchOption}
-use Rattle.std.proofs.lemmas.List.{length-map}
-use Rattle.std.proofs.lemmas.List.Sums.{length-filter, count_by-le-length}
+use Rattle.std.proofs.Common.{◌≡◌, ℕ, ◌+◌, ◌<◌, ◌≤◌, ◌^◌, List, length, get_or, refl, sym, ap, ◌∙◌, subst, arith, Some, None, Option, MatchOption}
 use Rattle.heap_walk.specs.Starts.{has_start}
-use Rattle.object_header.specs.Chunks.{Chunk, InOrder}
 use Rattle.spur_graph.specs.Room.{fresh_words}
 use Rattle.spur_graph.specs.Serve.{Anywhere, OldAlone, serve}
 use Rattle.spur_graph.specs.Spaces.{old_row}
-use Rattle.spur_graph.specs.Ordinary.{is_ordinary, ordinary_starts}
-use Rattle.spur_graph.specs.Heaps.{View, store_of, chunks_of, heap_room}
-use Rattle.heap_cells.proofs.Cutting.{head}
+use Rattle.spur_graph.specs.Heaps.{View, heap_room}
 use Rattle.free_lists.specs.Rows.{free_runs}
 use Rattle.free_lists.specs.Lists.{IsOutside, Takes}
 use Rattle.free_lists.specs.declared.lists.FreeLists.{FreeLists}
@@ -18,32 +13,20 @@ use Rattle.spur_heap.specs.Parts.{view_of, ArePartsOfHeap}
 use Rattle.spur_heap.specs.Fresh.{fill_word, PutsObject, IsFreshRun}
 use Rattle.spur_heap.specs.Allocating.{CanMake, Makes}
 use Rattle.spur_heap.proofs.EdenServed.{IsGrown, eden_whole, eden_adds, eden_lists, eden_count, eden_made, made_anywhere, old_has_to}
+use Rattle.spur_heap.proofs.FewObjects.{half_ordinary}
 use Rattle.spur_heap.proofs.Made.{starts_made}
 use Rattle.spur_heap.proofs.OldServed.{old_whole, old_adds, old_lists, old_count, old_made}
 use Rattle.spur_heap.proofs.Needs.{eden_fits}
-use Rattle.spur_heap.proofs.Orders.{order}
 use Rattle.spur_heap.proofs.Puts.{whole_sound}
 use Rattle.spur_heap.proofs.Served.{IsServed}
-
--- each chunk has two words at least
-few_chunks : (words : List ℕ) (at end : ℕ) (cs : List Chunk) → InOrder words at end cs → at + (length cs + length cs) ≤ end
-few_chunks words at end [] t = omega (arith, t)
-few_chunks words at end (c ∷ cs) t =
-    let l = head words at end c cs t in
-    let r = few_chunks words (c.at + c.size) end cs t.1.1 in
-    omega (arith, l.after, l.lead, l.room, r)
+use Rattle.spur_heap.proofs.Tables.{tables_kept}
 
 pub few_objects : (p : HeapParts) → ArePartsOfHeap p → p.objects < 2 ^ 27
-unfolding ordinary_starts
 few_objects p k =
-    let v : View = view_of p in
-    let a = few_chunks v.words 0 (length v.words) (chunks_of v) (order v (whole_sound v k.whole)) in
-    let b = count_by-le-length (is_ordinary (store_of v)) (store_of v).starts in
-    let e = length-filter (is_ordinary (store_of v)) (store_of v).starts in
-    let c : length (store_of v).starts ≡ length (chunks_of v) = length-map (chunks_of v) (λ (d : Chunk). d.start) in
+    let half = half_ordinary (view_of p) (whole_sound (view_of p) k.whole) in
     let few = k.whole.few in
     let count = k.objects.count in
-    omega (arith, a, b, c, e, few, count)
+    omega (arith, half, few, count)
 
 module _ (p : HeapParts) (k : ArePartsOfHeap p) (class format slots : ℕ) (can : CanMake class format slots) where
   abbrev v : View
@@ -84,6 +67,7 @@ module _ (p : HeapParts) (k : ArePartsOfHeap p) (class format slots : ℕ) (can 
       };
       free_chunks = record { lists = old_lists served can run };
       objects = record { count = ap (λ m. m + 1) k.objects.count ∙ sym (old_count served can run) };
+      tables = tables_kept p after k.tables (puts.long ∙ long) refl;
     }
 
     pub old_parts : ArePartsOfHeap q
@@ -120,6 +104,7 @@ module _ (p : HeapParts) (k : ArePartsOfHeap p) (class format slots : ℕ) (can 
       };
       free_chunks = record { lists = eden_lists grew p.free k.free_chunks.lists };
       objects = record { count = ap (λ m. m + 1) k.objects.count ∙ sym (eden_count grew) };
+      tables = tables_kept p then k.tables puts.long refl;
     }
 
     pub eden_parts : ArePartsOfHeap q

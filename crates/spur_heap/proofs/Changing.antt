@@ -1,18 +1,18 @@
 -- A store and the same with another object in the place of an ordinary one, also of another class and with other slots: it is sound as before.
-use Rattle.std.proofs.Common.{◌≡◌, ◌≢◌, ℕ, true, false, ◌⊎◌, Bool, not, ◌&&◌, ◌||◌, ◌/◌, ◌%◌, ◌<◌, eqb, ltb, get_or, sym, ap, ◌∙◌, arith, inl, inr, Option, Some, None}
-use Rattle.std.proofs.lemmas.Bool.{false≢true, cases_Bool, cases_eq, eq-eqb, ltb-true, and_parts, and_left, and_right, or_left, or_cases, not-false, not-true, not_from_true}
+use Rattle.std.proofs.Common.{◌≡◌, ◌≢◌, ℕ, true, false, ◌⊎◌, not, ◌&&◌, ◌/◌, ◌%◌, ◌<◌, ltb, get_or, sym, ap, ◌∙◌, arith, inl, inr}
+use Rattle.std.proofs.lemmas.Bool.{false≢true, cases_eq, ltb-true, and_parts, not-false, not-true}
 use Rattle.std.specs.Option.{unwrap_or}
 use Rattle.spur_graph.specs.Cells.{Body, There, Store, is_there, body_of, is_formed, pointer_count, first, lead}
-use Rattle.spur_graph.specs.Ordinary.{page_places, page_entries, class_limit, is_at, passes, body_at, is_nil_slot, is_page, is_internal, is_ordinary, is_good_word, has_page, page_of, entry, has_entry, is_no_index, is_entered, is_bad_entry}
+use Rattle.spur_graph.specs.Ordinary.{page_places, page_entries, class_limit, body_at, is_nil_slot, is_page, is_internal, is_ordinary, is_good_word, has_page, page_of, entry, is_entered}
 use Rattle.spur_graph.specs.CellGraph.{has_class}
 use Rattle.spur_graph.specs.Heaps.{IsSound}
-use Rattle.heap_cells.proofs.Below.{and-same}
 use Rattle.heap_cells.proofs.Bodies.{pointer_count-like}
 use Rattle.heap_cells.proofs.Internals.{IsPageAt, a_page}
 use Rattle.heap_cells.proofs.References.{ordinary_apart}
 use Rattle.heap_cells.proofs.Entries.{place_below}
 use Rattle.spur_heap.proofs.InPlace.{changed, Alike, cell-other, kept, lead-same, alike_formed}
-use Rattle.spur_heap.proofs.Swap.{Swap, page_internal, root-same, ordinary-same, has_page-same, sound_swapped}
+use Rattle.spur_heap.proofs.Swap.{Swap, page_internal, root-same, sound_swapped}
+use Rattle.spur_heap.proofs.EntriesAlike.{good_entry, has_class-same as class-same}
 
 -- it is no class that the table has; nil may stand at any index
 abbrev pub IsNoClass : Store → ℕ → Type 0
@@ -72,51 +72,18 @@ module _ {old : Store} {s : ℕ} {b : Body} {b' : Body} (k : Change old s b b') 
   pub entry_lead-same : (i : ℕ) → has_page old i ≡ true → lead (changed old s b') (entry (changed old s b') i) ≡ lead old (entry old i)
   entry_lead-same i e = ap (lead (changed old s b')) (entry-same i e) ∙ lead-same swap_of.place (entry old i)
 
-  has_entry-same : (i t : ℕ) → has_entry (changed old s b') i t ≡ has_entry old i t
-  has_entry-same i t = and-same (has_page (changed old s b') i) (has_page old i) (is_at t (lead (changed old s b') (entry (changed old s b') i))) (is_at t (lead old (entry old i))) (has_page-same swap_of i) (λ e. ap (is_at t) (entry_lead-same i e))
-
-  -- with the same hash it is entered as before
-  entered-by : (t : ℕ) → (body_at (changed old s b') t).hash ≡ (body_at old t).hash → is_entered (changed old s b') t ≡ is_entered old t
-  unfolding is_entered
-  entered-by t hash =
-      let has : has_entry (changed old s b') (body_at (changed old s b') t).hash t ≡ has_entry old (body_at old t).hash t = ap (λ n. has_entry (changed old s b') n t) hash ∙ has_entry-same (body_at old t).hash t in
-      λ x. ordinary-same swap_of t x && not (is_no_index (hash x)) && has x
-
-  -- what an entry of the old store leads to is nil, or entered as before
-  entry_test : ℕ → Store → ℕ → Bool
-  entry_test i h t = eqb t (first old 0) || (not (eqb i 0) && is_entered h t)
-
-  entry_kept : (i t : ℕ) → entry_test i old t ≡ true → entry_test i (changed old s b') t ≡ true
-  unfolding entry_test
-  entry_kept i t on = elim (cases_eq t s) [
-    | inr n ↦ ap (λ b. eqb t (first old 0) || (not (eqb i 0) && b)) (entered-by t (ap (λ c. (body_of c).hash) (cell-other swap_of.place t n))) ∙ on
+  -- an entered class has the hash that it had, or is nil
+  entered_hash : (t : ℕ) → is_entered old t ≡ true → (t ≡ first old 0) ⊎ ((body_at (changed old s b') t).hash ≡ (body_at old t).hash)
+  entered_hash t entered = elim (cases_eq t s) [
+    | inr n ↦ inr (ap (λ c. (body_of c).hash) (cell-other swap_of.place t n))
     | inl is ↦ elim k.hash [
-      | inl same ↦
-          let hash : (body_at (changed old s b') t).hash ≡ (body_at old t).hash = kept swap_of.place (λ c. (body_of c).hash) same t in
-          ap (λ b. eqb t (first old 0) || (not (eqb i 0) && b)) (entered-by t hash) ∙ on
-      | inr none ↦ or_left _ _ (elim (or_cases (eqb t (first old 0)) (not (eqb i 0) && is_entered old t) on) [
-        | inl nil ↦ nil
-        | inr entered ↦ eq-eqb t (first old 0) (is ∙ none (ap (is_entered old) (sym is) ∙ (and_parts (not (eqb i 0)) (is_entered old t) entered).1))
-      ])
+      | inl same ↦ inr (kept swap_of.place (λ c. (body_of c).hash) same t)
+      | inr none ↦ inl (is ∙ none (ap (is_entered old) (sym is) ∙ entered))
     ]
   ]
 
-  entry_passes : (i : ℕ) (o : Option ℕ) → passes (entry_test i old) o ≡ true → passes (entry_test i (changed old s b')) o ≡ true
-  entry_passes i None on = on
-  entry_passes i (Some t) on = entry_kept i t on
-
-  pub good_entry : (i : ℕ) → is_bad_entry (changed old s b') i ≡ false
-  unfolding entry_test
-  good_entry i = elim (cases_Bool (has_page old i)) [
-    | inr off ↦ and_left _ _ (has_page-same swap_of i ∙ off)
-    | inl on ↦
-        let passed : passes (entry_test i old) (lead old (entry old i)) ≡ true = not-false _ (sym (ap (λ b. b && not (passes (entry_test i old) (lead old (entry old i)))) on) ∙ k.sound.roots.entries i) in
-        and_right _ _ (not_from_true _ (ap (passes (entry_test i (changed old s b'))) (entry_lead-same i on) ∙ entry_passes i (lead old (entry old i)) passed))
-  ]
-
   pub has_class-same : (i : ℕ) → has_class (changed old s b') i ≡ has_class old i
-  has_class-same i = and-same (has_page (changed old s b') i) (has_page old i) (not (is_at (first old 0) (lead (changed old s b') (entry (changed old s b') i)))) (not (is_at (first old 0) (lead old (entry old i)))) (has_page-same swap_of i)
-      (λ e x. not (is_at (first old 0) (entry_lead-same i e x)))
+  has_class-same = class-same swap_of entry_lead-same entered_hash
 
   pub sound_changed : IsSound (changed old s b')
-  sound_changed = sound_swapped swap_of good_entry
+  sound_changed = sound_swapped swap_of (good_entry swap_of entry_lead-same entered_hash k.sound.roots.entries)

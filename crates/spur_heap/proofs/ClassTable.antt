@@ -1,19 +1,19 @@
 -- Which indices the class table has entries and pages for.
-use Rattle.std.proofs.Common.{◌≡◌, ℕ, suc, zero, Bool, true, false, not, cond, ◌&&◌, ◌||◌, ◌+◌, ◌*◌, ◌/◌, ◌<◌, ◌≤◌, eqb, ltb, List, [], ◌∷◌, map, refl, sym, ap, ◌∙◌, arith, inl, inr, Some, None, Option}
+use Rattle.std.proofs.Common.{◌≡◌, ℕ, suc, zero, Bool, true, false, not, cond, ◌&&◌, ◌+◌, ◌/◌, ◌<◌, ◌≤◌, eqb, List, [], ◌∷◌, map, refl, sym, ap, ◌∙◌, arith, inl, inr}
 use mathlib.Core.Bool.{and-false}
-use Rattle.std.proofs.lemmas.Bool.{false≢true, cases_Bool, cases_lt, eq-eqb, le-ltb, false_from_ne_true}
+use Rattle.std.proofs.lemmas.Bool.{cases_Bool, cases_lt, eq-eqb, le-ltb, false_from_ne_true}
 use Rattle.std.proofs.lemmas.Map.Views.{any-filter_same, list_any-from_Contains, Contains-from_any}
 use Rattle.std.specs.Option.{unwrap_or, is_none}
-use Rattle.std.specs.List.{Contains, filter, list_any, range_with_len}
+use Rattle.std.specs.List.{filter, list_any, range_with_len}
 use Rattle.std.specs.Ordering.{nat_cmp, eq_by_cmp}
 use Rattle.std.specs.Cmp.{nat_cmp_total, eq_by_cmp_equiv}
 use Rattle.std.specs.FinMap.{get, from_entries, find, get-from_entries}
-use Rattle.std.specs.FinSet.{contains, from_list, contains-from_list}
+use Rattle.std.specs.FinSet.{contains, contains-from_list}
 use Rattle.spur_graph.specs.Cells.{Store, first, lead}
-use Rattle.spur_graph.specs.Ordinary.{class_limit, page_entries, page_places, is_at, is_nil_slot, passes, is_ordinary, is_good_reference, root_slot, has_page, entry, tells}
+use Rattle.spur_graph.specs.Ordinary.{class_limit, page_entries, page_places, is_at, is_nil_slot, passes, is_ordinary, is_good_reference, root_slot, has_page, entry}
 use Rattle.spur_graph.specs.CellGraph.{read, has_class, classes_of}
 use Rattle.spur_graph.specs.HeapRoom.{room_in}
-use Rattle.spur_graph.specs.Heaps.{View, store_of, own_name, heap_graph, heap_room, heap_to}
+use Rattle.spur_graph.specs.Heaps.{View, store_of, own_name, heap_graph, heap_room}
 use Rattle.heap_cells.specs.Settled.{settled_word, word_of}
 use Rattle.heap_cells.proofs.Entries.{entry_passes, place_below}
 use Rattle.heap_cells.proofs.Finding.{key_same}

@@ -1,5 +1,5 @@
 -- A walk over a row of chunks that enters their starts, and counts the objects that were not there.
-use Rattle.std.proofs.Common.{◌≡◌, ℕ, Bool, true, false, not, eqb, cond, ◌&&◌, ◌||◌, ◌+◌, ◌<◌, ◌≤◌, List, [], ◌∷◌, get_or, refl, sym, ap, ◌∙◌, subst, arith, inl, inr}
+use Rattle.std.proofs.Common.{◌≡◌, ℕ, Bool, true, false, not, eqb, cond, ◌&&◌, ◌||◌, ◌+◌, ◌<◌, ◌≤◌, List, [], ◌∷◌, get_or, refl, sym, ap, ◌∙◌, arith, inl, inr}
 use Rattle.std.proofs.Math.Bool.{or_assoc}
 use mathlib.Core.Bool.{and-false, or-false}
 use Rattle.std.proofs.lemmas.Bool.{cases_Bool, cases_eq, eq-eqb, ne_eqb}
@@ -7,7 +7,7 @@ use Rattle.object_header.specs.Head.{class_of}
 use Rattle.object_header.specs.Chunks.{Chunk, chunk_of, Cuts, starts_in}
 use Rattle.heap_walk.specs.Starts.{has_start}
 use Rattle.heap_walk.specs.declared.starts.StartMap.{StartMap}
-use Rattle.heap_cells.proofs.Cutting.{chunk_of-lies, cuts-in_order, ends_after}
+use Rattle.spur_heap.proofs.NextChunk.{IsNext, meets, next, none_left}
 use Rattle.spur_heap.specs.Counting.{one_new, count_new, has_entered, is_object_header}
 
 -- the chunks before `at` are entered and counted, and the rest stand between there and `end`
@@ -18,12 +18,6 @@ pub record IsCounted (words : List ℕ) (at end : ℕ) (cs : List Chunk) (first 
   pub ahead : (s : ℕ) → at ≤ s → has_start map s ≡ has_start first s
   pub count : n + count_new words first rest ≡ count_new words first cs
   pub few : n ≤ at
-
--- the chunk at `at` is the next one, with a word behind its header
-pub record IsNext (words : List ℕ) (at end : ℕ) : Type 0 where
-  pub after : at ≤ (chunk_of at (get_or words at 0)).start
-  pub room : (chunk_of at (get_or words at 0)).start + 2 ≤ at + (chunk_of at (get_or words at 0)).size
-  pub fits : at + (chunk_of at (get_or words at 0)).size ≤ end
 
 pub one_at_most : (map : StartMap) (start header : ℕ) → one_new map start header ≤ 1
 one_at_most map start header = elim (cases_Bool (is_object_header header && not (has_start map start))) [ inl on ↦ rw on (omega arith) | inr off ↦ rw off (omega arith) ]
@@ -47,37 +41,21 @@ module _ (words : List ℕ) (at end : ℕ) (cs : List Chunk) (first map : StartM
   abbrev here : Chunk
   here = chunk_of at (get_or words at 0)
 
-  -- the rest begins with the chunk that the words tell
-  record Meets : Type 0 where
-    more : List Chunk
-    is : w.rest ≡ here ∷ more
-    cut : Cuts words (at + here.size) end more
-
-  meets : at < end → Meets
-  meets l = go w.rest refl w.cut
-    where
-      go : (rest : List Chunk) → w.rest ≡ rest → Cuts words at end rest → Meets
-      go [] is t = absurd (omega (arith, t, l))
-      go (c ∷ ds) is t = record { more = ds; is = is ∙ ap (λ d. d ∷ ds) t.0.is; cut = subst (λ (d : Chunk). Cuts words (at + d.size) end ds) t.0.is t.1 }
-
   pub next_counted : at < end → IsNext words at end
-  next_counted l =
-      let b = chunk_of-lies at (get_or words at 0) in
-      let m = meets l in
-      record { after = omega (arith, b.lead, b.after); room = omega (arith, b.room, b.before); fits = ends_after words (at + here.size) end m.more (cuts-in_order words (at + here.size) end m.more m.cut) }
+  next_counted l = next words at end w.rest w.cut l
 
   pub count_on : at < end → (new : StartMap) → ((s : ℕ) → has_start new s ≡ has_entered map here.start (get_or words here.start 0) s)
       → IsCounted words (at + here.size) end cs first new (n + one_new map here.start (get_or words here.start 0))
   unfolding count_new
   count_on l new marks =
-      let m = meets l in
+      let m = meets words at end w.rest w.cut l in
       let b = next_counted l in
       let header : ℕ = get_or words here.start 0 in
       let same : one_new map here.start header ≡ one_new first here.start header = ap (λ h. cond (is_object_header header && not h) 1 0) (w.ahead here.start b.after) in
       let tail : count_new words first w.rest ≡ one_new first here.start header + count_new words first m.more = ap (λ ds. count_new words first ds) m.is in
       record {
         rest = m.more;
-        cut = m.cut;
+        cut = m.tail;
         marked = λ s.
             ap (λ x. x || starts_in words m.more s) (marks s)
             ∙ or_assoc (has_start map s) (eqb s here.start && not (eqb (class_of header) 0)) (starts_in words m.more s)
@@ -94,9 +72,8 @@ module _ (words : List ℕ) (at end : ℕ) (cs : List Chunk) (first map : StartM
   -- behind the last chunk all are entered and counted
   pub counted_all : end ≤ at → ((s : ℕ) → has_start map s ≡ has_start first s || starts_in words cs s) × (n ≡ count_new words first cs)
   unfolding starts_in count_new
-  counted_all l = go w.rest w.cut w.marked w.count
-    where
-      go : (rest : List Chunk) → Cuts words at end rest → ((s : ℕ) → has_start map s || starts_in words rest s ≡ has_start first s || starts_in words cs s) → n + count_new words first rest ≡ count_new words first cs
-          → ((s : ℕ) → has_start map s ≡ has_start first s || starts_in words cs s) × (n ≡ count_new words first cs)
-      go [] t m k = (λ s. sym (or-false (has_start map s)) ∙ m s, omega (arith, k))
-      go (c ∷ ds) t m k = absurd (omega (arith, (chunk_of-lies at (get_or words at 0)).room, (chunk_of-lies at (get_or words at 0)).lead, (chunk_of-lies at (get_or words at 0)).after, (chunk_of-lies at (get_or words at 0)).before, ap (λ (d : Chunk). d.size) t.0.is, ends_after words (at + c.size) end ds (cuts-in_order words (at + c.size) end ds t.1), l))
+  counted_all l =
+      let none = none_left words at end w.rest w.cut l in
+      let marked : (s : ℕ) → has_start map s || starts_in words [] s ≡ has_start first s || starts_in words cs s = λ s. ap (λ (ds : List Chunk). has_start map s || starts_in words ds s) (sym none) ∙ w.marked s in
+      let count : n + count_new words first [] ≡ count_new words first cs = ap (λ (ds : List Chunk). n + count_new words first ds) (sym none) ∙ w.count in
+      (λ s. sym (or-false (has_start map s)) ∙ marked s, omega (arith, count))

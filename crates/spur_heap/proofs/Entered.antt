@@ -55,7 +55,7 @@ found_kept : {X : Type 0} (f : ℕ → X) (i : ℕ) (js : List ℕ) → find nat
 found_kept f i [] = refl
 found_kept f i (j ∷ js) = elim (cases_Bool (eq_by_cmp nat_cmp i j)) [ inl on ↦ rw on (ap (λ k. Some (f k)) (sym (key_same i j on))) | inr off ↦ rw off (found_kept f i js) ]
 
-classes_at : (h : Store) (q : ℕ) → get (classes_of own_name h) q ≡ cond (has_class h q) (Some (read own_name h (entry h q))) None
+pub classes_at : (h : Store) (q : ℕ) → get (classes_of own_name h) q ≡ cond (has_class h q) (Some (read own_name h (entry h q))) None
 unfolding classes_of
 classes_at h q = among class_limit refl
   where

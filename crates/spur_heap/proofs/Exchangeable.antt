@@ -15,7 +15,8 @@ use Rattle.heap_cells.proofs.ObjectReads.{object-slots}
 use Rattle.heap_cells.proofs.References.{ordinary_there}
 use Rattle.spur_heap.specs.Exchanging.{CanExchange}
 use Rattle.spur_heap.specs.Outside.{IsOutside}
-use Rattle.spur_heap.specs.Swaps.{swap_run, lead_at, AreAlike, remembers, header_for, exchanged_words}
+use Rattle.heap_walk.specs.Shapes.{lead_at}
+use Rattle.spur_heap.specs.Swaps.{swap_run, AreAlike, remembers, header_for, exchanged_words}
 use Rattle.spur_heap.specs.Words.{AreSound, body_in}
 use Rattle.spur_heap.specs.Views.{IsOrdinary, IsGood, node_in}
 use Rattle.spur_heap.proofs.Orders.{order}

@@ -3,7 +3,7 @@ use Rattle.std.proofs.Common.{◌≡◌, ◌≢◌, ◌⊎◌, ℕ, true, ◌+�
 use Rattle.std.proofs.lemmas.Bool.{cases_eq, cases_lt}
 use Rattle.std.specs.List.{Contains}
 use Rattle.object_header.specs.Chunks.{Chunk}
-use Rattle.spur_graph.specs.Cells.{Body, There, Store, is_start, body_of, cell_in, read_cell, final, first}
+use Rattle.spur_graph.specs.Cells.{Body, There, Store, is_start, body_of, cell_in, read_cell, final}
 use Rattle.spur_graph.specs.Spaces.{old_row, young_row}
 use Rattle.spur_graph.specs.Heaps.{View, IsWhole, HasBits, store_of, chunks_of, heap_to, is_remembered, names_over, waiting_in}
 use Rattle.heap_cells.proofs.CellKinds.{there_is}

@@ -1,4 +1,4 @@
--- Headers in which a flag or the hash is another.
+-- Headers in which a flag, the hash or the format is another.
 use Rattle.std.proofs.Common.{◌≡◌, ℕ, Bool, true, false, ◌<◌, ◌≤◌, ◌^◌, get_or, refl, sym, ap, ◌∙◌, subst, arith, inl, inr}
 use Rattle.object_header.specs.Field.{with_field}
 use Rattle.object_header.specs.Fields.{Fields, fields_of}
@@ -21,7 +21,7 @@ module _ (v : View) (s new : ℕ) where
     marked = ap (λ (g : Fields). g.marked) f;
     grey = ap (λ (g : Fields). g.grey) f;
     remembered = ap (λ (g : Fields). g.remembered) f;
-    format = ap (λ (g : Fields). g.format) f;
+    format = inl (ap (λ (g : Fields). g.format) f);
     class = ap (λ (g : Fields). g.class) f;
     unused = set_unused 30 1 (get_or v.words s 0) bit new (inl (omega arith)) (inr (omega arith)) (subst (λ n. n < 2) (sym flag) (flag_small on)) e;
     hash = inl (ap (λ (g : Fields). g.hash) f);
@@ -39,7 +39,7 @@ module _ (v : View) (s new : ℕ) where
     marked = ap (λ (g : Fields). g.marked) f;
     grey = ap (λ (g : Fields). g.grey) f;
     remembered = ap (λ (g : Fields). g.remembered) f;
-    format = ap (λ (g : Fields). g.format) f;
+    format = inl (ap (λ (g : Fields). g.format) f);
     class = ap (λ (g : Fields). g.class) f;
     unused = set_unused 23 1 (get_or v.words s 0) bit new (inl (omega arith)) (inr (omega arith)) (subst (λ n. n < 2) (sym flag) (flag_small on)) e;
     hash = inl (ap (λ (g : Fields). g.hash) f);
@@ -53,9 +53,23 @@ module _ (v : View) (s new : ℕ) where
     marked = ap (λ (g : Fields). g.marked) f;
     grey = ap (λ (g : Fields). g.grey) f;
     remembered = ap (λ (g : Fields). g.remembered) f;
-    format = ap (λ (g : Fields). g.format) f;
+    format = inl (ap (λ (g : Fields). g.format) f);
     class = ap (λ (g : Fields). g.class) f;
     unused = set_unused 32 22 (get_or v.words s 0) hash new (inl (omega arith)) (inr (omega arith)) fits e;
     hash = inr unentered;
     mobile = λ l was. ap (λ (g : Fields). g.pinned) f ∙ was;
   }) fields written
+
+  -- the format of named slots alone, of an object whose slots are all pointers
+  pub can_retire : (word : ℕ) → word ≡ get_or v.words s 0 → (fields_of word).format < 6 → new ≡ with_field 24 5 word 1 → fields_of new ≡ record (fields_of word) { format = 1 } → CanHead v s new
+  can_retire word is plain written fields = subst (λ w. (fields_of w).format < 6 → fields_of new ≡ record (fields_of w) { format = 1 } → new ≡ with_field 24 5 w 1 → CanHead v s new) (sym is) (λ l f e. record {
+    count = ap (λ (g : Fields). g.count) f;
+    marked = ap (λ (g : Fields). g.marked) f;
+    grey = ap (λ (g : Fields). g.grey) f;
+    remembered = ap (λ (g : Fields). g.remembered) f;
+    format = inr (l, ap (λ (g : Fields). g.format) f);
+    class = ap (λ (g : Fields). g.class) f;
+    unused = set_unused 24 5 (get_or v.words s 0) 1 new (inl (omega arith)) (inr (omega arith)) (omega arith) e;
+    hash = inl (ap (λ (g : Fields). g.hash) f);
+    mobile = λ l was. ap (λ (g : Fields). g.pinned) f ∙ was;
+  }) plain fields written

@@ -1,12 +1,13 @@
 -- The free chunks of a row as runs: where other words give the same, and which words are theirs.
-use Rattle.std.proofs.Common.{◌≡◌, ◌⊎◌, ℕ, Bool, true, false, ◌+◌, ◌<◌, ◌≤◌, not, List, [], ◌∷◌, length, get_or, refl, sym, ap, ◌∙◌, arith, inl, inr, Option}
-use Rattle.std.proofs.lemmas.Bool.{cases_Bool, cases_eq}
+use Rattle.std.proofs.Common.{◌≡◌, ℕ, Bool, true, false, ◌+◌, ◌<◌, ◌≤◌, not, List, [], ◌∷◌, get_or, refl, sym, ap, ◌∙◌, arith, inl, inr, Option}
+use Rattle.std.proofs.lemmas.Bool.{cases_Bool, cases_eq, cases_lt, false≢true}
 use Rattle.object_header.specs.Fields.{fields_of}
 use Rattle.object_header.specs.Chunks.{Chunk, InOrder, slots_of}
 use Rattle.spur_graph.specs.Cells.{is_start, cell_in, read_cell, start_named}
 use Rattle.heap_cells.proofs.CellKinds.{start_from}
 use Rattle.heap_cells.proofs.Cutting.{cell-at}
 use Rattle.heap_cells.proofs.Members.{In}
+use Rattle.heap_cells.proofs.Starts.{in_order}
 use Rattle.free_lists.specs.Runs.{cover, covers}
 use Rattle.free_lists.specs.Rows.{is_free, free_runs, with_run}
 use Rattle.free_lists.proofs.Covers.{cover-cons, covers-place}
@@ -54,3 +55,20 @@ covered_by words (c ∷ cs) k some = elim (cases_Bool (is_free (get_or words c.s
   where
     more : HasFree words cs k → HasFree words (c ∷ cs) k
     more h = record { chunk = h.chunk; inside = inr h.inside; free = h.free; from = h.from; to = h.to }
+
+-- a word of a chunk that is not free is that of no free chunk
+pub kept-outside : (words : List ℕ) (end : ℕ) (cs : List Chunk) → InOrder words 0 end cs → (c : Chunk) → In cs c → is_free (get_or words c.start 0) ≡ false → (k : ℕ) → c.at ≤ k → k < c.at + c.size → cover (free_runs words cs) k ≡ 0
+kept-outside words end cs t c m off k from to = elim (cases_eq (cover (free_runs words cs) k) 0) [
+  | inl none ↦ none
+  | inr some ↦
+      let f = covered_by words cs k (omega (arith, some)) in
+      let first = f.from in
+      let last = f.to in
+      absurd (elim (cases_lt c.start f.chunk.start) [
+        | inl low ↦ let a = in_order words 0 end cs c f.chunk t m f.inside low in omega (arith, a, first, to)
+        | inr ge ↦ elim (cases_eq c.start f.chunk.start) [
+          | inl e ↦ false≢true (sym off ∙ ap (λ s. is_free (get_or words s 0)) e ∙ f.free)
+          | inr n ↦ let a = in_order words 0 end cs f.chunk c t f.inside m (omega (arith, ge, n)) in omega (arith, a, last, from)
+        ]
+      ])
+]

@@ -124,6 +124,24 @@ module _ {old : Store} {s : ℕ} {b : Body} {b' : Body} (k : Swap old s b b') wh
         pages = sets.from_list (filter (λ i. not (nil_slot-same k i x)) (range_with_len 0 page_places));
       }
 
+-- ---- stores whose nodes and entries read the same
+
+module _ (old new : Store) where
+  pub nodes-alike : ordinary_starts new ≡ ordinary_starts old → ((t : ℕ) → node_of own_name new (body_at new t) ≡ node_of own_name old (body_at old t)) → nodes_of own_name new ≡ nodes_of own_name old
+  unfolding nodes_of
+  nodes-alike starts node = λ x. from_entries {R = nat_cmp} (map (λ t. (t, node t x)) (starts x))
+
+  pub classes-alike : ((i : ℕ) → has_class new i ≡ has_class old i) → ((i : ℕ) → has_page old i ≡ true → read own_name new (entry new i) ≡ read own_name old (entry old i))
+      → classes_of own_name new ≡ classes_of own_name old
+  unfolding classes_of
+  classes-alike class value = among class_limit
+    where
+      among : (n : ℕ) → from_entries {R = nat_cmp} (map (λ j. (j, read own_name new (entry new j))) (filter (has_class new) (range_with_len 0 n))) ≡ from_entries {R = nat_cmp} (map (λ j. (j, read own_name old (entry old j))) (filter (has_class old) (range_with_len 0 n)))
+      among n =
+          ap (λ js. from_entries {R = nat_cmp} (map (λ j. (j, read own_name new (entry new j))) js)) (filter_agree (has_class new) (has_class old) class (range_with_len 0 n))
+          ∙ ap (λ es. from_entries {R = nat_cmp} es) (map_kept (has_class old) (λ j. (j, read own_name old (entry old j))) (λ j. (j, read own_name new (entry new j)))
+          (λ j e x. (j, value j (and_parts (has_page old j) _ e).0 x)) (range_with_len 0 n))
+
 -- ---- of an ordinary object
 
 module _ {old : Store} {s : ℕ} {b : Body} {b' : Body} (k : Change old s b b') where
@@ -137,14 +155,7 @@ module _ {old : Store} {s : ℕ} {b : Body} {b' : Body} (k : Change old s b b') 
       (ordinary_starts old) (in_filter (is_ordinary old) old.starts s m k.ordinary)
 
   classes-same : classes_of own_name (changed old s b') ≡ classes_of own_name old
-  unfolding classes_of
-  classes-same = among class_limit
-    where
-      among : (n : ℕ) → from_entries {R = nat_cmp} (map (λ j. (j, read own_name (changed old s b') (entry (changed old s b') j))) (filter (has_class (changed old s b')) (range_with_len 0 n))) ≡ from_entries {R = nat_cmp} (map (λ j. (j, read own_name old (entry old j))) (filter (has_class old) (range_with_len 0 n)))
-      among n =
-          ap (λ js. from_entries {R = nat_cmp} (map (λ j. (j, read own_name (changed old s b') (entry (changed old s b') j))) js)) (filter_agree (has_class (changed old s b')) (has_class old) (has_class-same k) (range_with_len 0 n))
-          ∙ ap (λ es. from_entries {R = nat_cmp} es) (map_kept (has_class old) (λ j. (j, read own_name old (entry old j))) (λ j. (j, read own_name (changed old s b') (entry (changed old s b') j)))
-          (λ j e. let page = (and_parts (has_page old j) _ e).0 in let value : read own_name (changed old s b') (entry (changed old s b') j) ≡ read own_name old (entry old j) = read-same (swap_of k) (entry (changed old s b') j) ∙ ap (read own_name old) (entry-same k j page) in λ x. (j, value x)) (range_with_len 0 n))
+  classes-same = classes-alike old (changed old s b') (has_class-same k) (λ i page. read-same (swap_of k) (entry (changed old s b') i) ∙ ap (read own_name old) (entry-same k i page))
 
   pub graph-changed : In old.starts s → (special : ℕ) (held : FinMap handle_cmp ℕ) (groups : List (List ℕ)) (hash next : ℕ)
       → graph_in (changed old s b') special held groups hash next ≡ with_node (graph_in old special held groups hash next) s (node_of own_name old b')

@@ -1,12 +1,12 @@
 -- The internal objects, as they are entered into a map of starts.
-use Rattle.std.proofs.Common.{◌≡◌, ◌≢◌, ℕ, suc, zero, Bool, true, false, not, cond, ◌&&◌, ◌||◌, ◌+◌, ◌*◌, ◌/◌, ◌<◌, eqb, length, get_or, refl, sym, ap, ◌∙◌, arith, inl, inr, Some}
+use Rattle.std.proofs.Common.{◌≡◌, ◌≢◌, ℕ, suc, zero, Bool, true, false, not, ◌&&◌, ◌||◌, ◌+◌, ◌*◌, ◌/◌, ◌<◌, eqb, length, get_or, sym, ap, ◌∙◌, arith, inl, inr, Some}
 use Rattle.std.proofs.Math.Bool.{or_comm, or_assoc}
-use mathlib.Core.Bool.{and-false, or-false}
-use Rattle.std.proofs.lemmas.Bool.{cases_Bool, cases_eq, eq-eqb, ne_eqb}
+use mathlib.Core.Bool.{and-false}
+use Rattle.std.proofs.lemmas.Bool.{cases_eq, eq-eqb, ne_eqb}
 use Rattle.heap_walk.specs.Starts.{has_start}
 use Rattle.heap_walk.specs.declared.starts.StartMap.{StartMap}
 use Rattle.spur_graph.specs.Cells.{Store, first, any_below}
-use Rattle.spur_graph.specs.Ordinary.{page_places, roots_slots, root_slot, tells, is_at, is_internal}
+use Rattle.spur_graph.specs.Ordinary.{page_places, root_slot, tells, is_at, is_internal}
 use Rattle.spur_graph.specs.Heaps.{View, store_of, heap_to}
 use Rattle.heap_cells.specs.Settled.{word_of}
 use Rattle.heap_cells.proofs.Below.{any_below-same}

@@ -21,7 +21,7 @@ use Rattle.spur_heap.proofs.Forwardable.{CanLead, forwards, may_mourn}
 use Rattle.spur_heap.proofs.Led.{led_touch, led_whole, led_ordinary, led_good, led_value, led_graph, led_room, led_starts, led_lists, led_count}
 use Rattle.spur_heap.proofs.Puts.{object, start_inside}
 use Rattle.spur_heap.proofs.Storing.{RemembersFor, remembers_for}
-use Rattle.spur_heap.proofs.Tables.{HasFreeLists}
+use Rattle.spur_heap.proofs.Tables.{HasFreeLists, tables_kept}
 
 -- no field but the words is another
 remembered_view : (v : View) (s w : ℕ) → remembered_for v s w ≡ record v { words = (remembered_for v s w).words }
@@ -127,4 +127,7 @@ module _ (p : HeapParts) (k : ArePartsOfHeap p) (v : View) (same : view_of p ≡
                 let less : q.objects - 1 ≡ length (ordinary_starts (store_of (led_to v a b))) = omega (arith, c, n) in less)
                 ∙ ap (λ (u : View). length (ordinary_starts (store_of u))) (sym told);
           };
+          tables = tables_kept p then k.tables
+              (ap (λ (u : View). length u.words) told ∙ led_to_long v whole a b can ∙ ap (λ (u : View). length u.words) (sym same))
+              (λ i. record then { mourners = (is i).mourners; mourned = (is i).mourned; marks = (is i).marks; saved = (is i).saved; limits = (is i).limits });
         }

@@ -1,6 +1,6 @@
 -- The node of an object, and of the same with another pointer or another unit.
-use Rattle.std.proofs.Common.{◌≡◌, ℕ, true, ◌==◌, ◌+◌, ◌*◌, ◌/◌, ◌%◌, ◌^◌, ◌<◌, zero, suc, List, [], ◌∷◌, map, take, drop, length, get_or, set, refl, ap, ◌∙◌, arith}
-use Rattle.std.proofs.lemmas.List.{length-map, length-take-le, get_or-take, map-set, take-set-le, drop-set-lt}
+use Rattle.std.proofs.Common.{◌≡◌, ℕ, true, ◌==◌, ◌+◌, ◌*◌, ◌/◌, ◌%◌, ◌^◌, ◌<◌, zero, suc, List, [], ◌∷◌, map, take, drop, length, get_or, set, refl, sym, ap, ◌∙◌, arith}
+use Rattle.std.proofs.lemmas.List.{length-map, length-take-le, get_or-take, map-set, set-get_or, take-set-le, drop-set-lt}
 use Rattle.std.specs.List.{range_with_len}
 use Rattle.object_header.specs.Field.{with_field}
 use Rattle.object_header.specs.Formats.{unit_bytes_of}
@@ -70,6 +70,15 @@ module _ (h : Store) (b : Body) where
         ∙ map-set (read own_name h) (pointers b) i w in
         let rest : units (with_words b (set b.words i w)) ≡ units b = units-same b (set b.words i w) like (drop-set-lt (pointer_count b) b.words i w low) in
         λ x. record { class = b.class; hash = b.hash; format = b.format; pointers = values x; units = rest x; pinned = b.pinned == 1; readonly = b.readonly == 1 }
+
+    -- a pointer is written that reads as the one before
+    pub node_same_pointer : (i w : ℕ) → i < pointer_count b → IsLike b (set b.words i w) → read own_name h w ≡ read own_name h (get_or b.words i 0)
+        → node_of own_name h (with_words b (set b.words i w)) ≡ node_of own_name h b
+    node_same_pointer i w low like same =
+        let n : Node = node_of own_name h b in
+        let vs : List Value = n.pointers in
+        let read_so : set vs i (read own_name h w) ≡ vs = ap (set vs i) (same ∙ sym (node_pointer i (read own_name h w) low)) ∙ set-get_or vs i (read own_name h w) in
+        node_with_pointer i w low like ∙ ap (λ (us : List Value). record n { pointers = us }) read_so
 
     -- a unit is written
     pub node_with_unit : (i v : ℕ) → i < unit_count b → (range : v < 2 ^ (8 * unit_bytes_of b.format))

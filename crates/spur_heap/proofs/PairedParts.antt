@@ -1,5 +1,5 @@
 -- The parts of a heap once two objects are made side by side: they stand for a heap, which is the one before with both.
-use Rattle.std.proofs.Common.{◌≡◌, ℕ, ◌+◌, ◌<◌, ◌≤◌, ◌^◌, List, length, get_or, sym, ap, ◌∙◌, subst}
+use Rattle.std.proofs.Common.{◌≡◌, ℕ, ◌+◌, ◌<◌, ◌≤◌, ◌^◌, List, length, get_or, refl, sym, ap, ◌∙◌, subst}
 use Rattle.spur_graph.specs.Room.{fresh_words}
 use Rattle.spur_graph.specs.Spaces.{old_row}
 use Rattle.spur_graph.specs.Heaps.{View, heap_room}
@@ -15,6 +15,7 @@ use Rattle.spur_heap.proofs.Needs.{eden_fits}
 use Rattle.spur_heap.proofs.OldPaired.{old_pair_whole, old_pair_adds, old_pair_lists, old_pair_makes}
 use Rattle.spur_heap.proofs.Paired.{WritesPair, AddsPair, outside_both, pair_count, pair_starts}
 use Rattle.spur_heap.proofs.Served.{IsServed}
+use Rattle.spur_heap.proofs.Tables.{tables_kept}
 
 -- what holds of the starts of two runs, one behind the other, holds of the places that are told
 at_places : (at first second s t : ℕ) → s ≡ fresh_start at first → t ≡ fresh_start (at + fresh_words first) second → (P : ℕ → ℕ → Type 0) → P (fresh_start at first) (fresh_start (at + fresh_words first) second) → P s t
@@ -81,6 +82,7 @@ module _ (p : HeapParts) (k : ArePartsOfHeap p) (first second : ℕ) (few_first 
       };
       free_chunks = record { lists = old_pair_lists served few_first few_second writes };
       objects = record { count = ap (λ m. m + 1 + 1) k.objects.count ∙ sym (pair_count adds (old_pair_whole served few_first few_second writes)) };
+      tables = tables_kept p after k.tables (puts.two.long ∙ puts.one.long ∙ long) refl;
     }
 
     pub old_pair_parts : ArePartsOfHeap q
@@ -121,6 +123,7 @@ module _ (p : HeapParts) (k : ArePartsOfHeap p) (first second : ℕ) (few_first 
       };
       free_chunks = record { lists = eden_pair_lists grew p.free k.free_chunks.lists };
       objects = record { count = ap (λ m. m + 1 + 1) k.objects.count ∙ sym (pair_count eden_adds (eden_pair_whole grew)) };
+      tables = tables_kept p then k.tables (puts.two.long ∙ puts.one.long) refl;
     }
 
     pub eden_pair_parts : ArePartsOfHeap q

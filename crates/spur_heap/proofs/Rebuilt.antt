@@ -1,6 +1,6 @@
 -- The heads of the free chunks of old space are written anew, and nothing stands in new space: the same cells, and a whole heap of the same graph and room.
-use Rattle.std.proofs.Common.{◌≡◌, ◌≢◌, ◌⊎◌, ℕ, Bool, true, false, cond, not, ◌&&◌, ◌+◌, ◌-◌, ◌%◌, ◌^◌, ◌<◌, ◌≤◌, eqb, nat_lt, List, [], ◌∷◌, ◌++◌, length, get_or, refl, sym, ap, ◌∙◌, subst, arith, inl, inr, Option}
-use Rattle.std.proofs.lemmas.Bool.{false≢true, cases_Bool, cases_eq, cases_lt, eq-eqb, ne_eqb, eqb-true, ltb-false, not-true}
+use Rattle.std.proofs.Common.{◌≡◌, ◌⊎◌, ℕ, true, false, cond, not, ◌&&◌, ◌+◌, ◌-◌, ◌%◌, ◌^◌, ◌<◌, ◌≤◌, eqb, nat_lt, List, [], ◌∷◌, ◌++◌, length, get_or, refl, sym, ap, ◌∙◌, subst, arith, inl, inr}
+use Rattle.std.proofs.lemmas.Bool.{cases_Bool, cases_eq, eq-eqb, ne_eqb, eqb-true, ltb-false, not-true}
 use Rattle.std.proofs.Math.Nat.{zero-div}
 use Rattle.std.proofs.lemmas.List.{length-map}
 use Rattle.std.specs.List.{Contains, filter}
@@ -21,7 +21,6 @@ use Rattle.heap_cells.proofs.Members.{In, in_list, listed}
 use Rattle.heap_cells.proofs.Appending.{read-free}
 use Rattle.heap_cells.proofs.Cutting.{first as first_lies, stands, shape, cell-none, cuts-in_order, row-is, start-in}
 use Rattle.heap_cells.proofs.Spaced.{one-space, empty-row}
-use Rattle.heap_cells.proofs.Starts.{in_order}
 use Rattle.heap_cells.proofs.Writing.{read-agree}
 use Rattle.heap_cells.proofs.UnusedBits.{zero_unused, set_unused}
 use Rattle.heap_cells.proofs.OtherStarts.{with_starts, Restarts, restarted-internal, restarted-reference, restarted-good, restarted-sound, restarted-mourners, restarted-starts, restarted-graph}
@@ -32,7 +31,7 @@ use Rattle.free_lists.specs.Rows.{is_free, free_runs, rewritten, written, with_r
 use Rattle.free_lists.specs.Lists.{Lists}
 use Rattle.free_lists.specs.declared.lists.FreeLists.{FreeLists}
 use Rattle.free_lists.proofs.Written.{free_is_written}
-use Rattle.spur_heap.proofs.FreeRuns.{free_told, HasFree, covered_by}
+use Rattle.spur_heap.proofs.FreeRuns.{free_told, covered_by, kept-outside}
 use Rattle.spur_heap.proofs.Tables.{HasFreeLists}
 use Rattle.spur_heap.proofs.Touched.{same_bit}
 use Rattle.spur_heap.specs.Views.{IsOutsideFree}
@@ -228,18 +227,7 @@ module _ {v : View} {new : List ℕ} (k : Rebuilds v new) where
 
   -- a word of a chunk that is not free is that of no free chunk
   kept_words : (c : Chunk) → In before c → is_free (get_or v.words c.start 0) ≡ false → (j : ℕ) → c.at ≤ j → j < c.at + c.size → get_or new j 0 ≡ get_or v.words j 0
-  kept_words c m off j from to = k.others j (elim (cases_eq (cover (free_runs v.words before) j) 0) [
-    | inl none ↦ none
-    | inr some ↦
-        let f = covered_by v.words before j (omega (arith, some)) in
-        absurd (elim (cases_lt c.start f.chunk.start) [
-          | inl low ↦ let a = in_order v.words 0 v.spaces.old_end before c f.chunk in_row m f.inside low in omega (arith, a, f.from, to)
-          | inr ge ↦ elim (cases_eq c.start f.chunk.start) [
-            | inl e ↦ false≢true (sym off ∙ ap (λ s. is_free (get_or v.words s 0)) e ∙ f.free)
-            | inr n ↦ let a = in_order v.words 0 v.spaces.old_end before f.chunk c in_row f.inside m (omega (arith, ge, n)) in omega (arith, a, f.to, from)
-          ]
-        ])
-  ])
+  kept_words c m off j from to = k.others j (kept-outside v.words v.spaces.old_end before in_row c m off j from to)
 
   rewrites : Rewrites v.words new before
   rewrites = record {

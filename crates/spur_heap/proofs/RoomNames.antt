@@ -1,6 +1,6 @@
 -- The room of a heap tells of the names that have nodes, and of no other.
-use Rattle.std.proofs.Common.{◌≡◌, ◌≢◌, ℕ, Bool, true, false, cond, ◌||◌, ◌&&◌, List, [], ◌∷◌, ◌++◌, map, refl, sym, ap, ◌∙◌, Some, None, Option}
-use Rattle.std.proofs.lemmas.Bool.{false≢true, cases_Bool, false_from_ne_true}
+use Rattle.std.proofs.Common.{◌≡◌, ◌≢◌, ℕ, Bool, true, false, cond, ◌||◌, List, [], ◌∷◌, ◌++◌, map, refl, sym, ap, ◌∙◌, Some, None}
+use Rattle.std.proofs.lemmas.Bool.{false_from_ne_true}
 use Rattle.std.proofs.lemmas.Option.{none-some}
 use Rattle.std.specs.List.{filter, list_any}
 use Rattle.std.specs.Ordering.{nat_cmp, eq_by_cmp}
@@ -8,7 +8,7 @@ use Rattle.std.specs.Cmp.{nat_cmp_total}
 use Rattle.std.specs.FinMap.{get, find, get-from_entries}
 use Rattle.std.specs.FinSet.{contains, contains-from_list}
 use Rattle.object_header.specs.Chunks.{Chunk}
-use Rattle.spur_graph.specs.Room.{Space, Spot, Old, Eden, Past}
+use Rattle.spur_graph.specs.Room.{Space, Old, Eden, Past}
 use Rattle.spur_graph.specs.Cells.{Store}
 use Rattle.spur_graph.specs.Ordinary.{is_ordinary}
 use Rattle.spur_graph.specs.CellRoom.{ordinary_chunks}

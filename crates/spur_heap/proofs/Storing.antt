@@ -116,7 +116,7 @@ remembered_for_long v s w = elim (cases_Bool (must_remember v s w)) [
 ]
 
 -- no field but the words is another
-stored_view : (v : View) (s i w : ℕ) → stored v s i w ≡ record v { words = (stored v s i w).words }
+pub stored_view : (v : View) (s i w : ℕ) → stored v s i w ≡ record v { words = (stored v s i w).words }
 stored_view v s i w = elim (cases_Bool (must_remember v s w)) [
   | inl on ↦ subst (λ b. let u : View = after (cond b (remembered_at v s) v) (s + 1 + i) w in u ≡ record v { words = u.words }) (sym on) refl
   | inr off ↦ subst (λ b. let u : View = after (cond b (remembered_at v s) v) (s + 1 + i) w in u ≡ record v { words = u.words }) (sym off) refl

@@ -1,5 +1,5 @@
 -- The tables beside the words, where other words tell the same of each.
-use Rattle.std.proofs.Common.{◌≡◌, ◌≢◌, ℕ, true, ◌≤◌, not, List, length, get_or, refl, sym, ap, ◌∙◌, subst, inl, inr}
+use Rattle.std.proofs.Common.{◌≡◌, ◌≢◌, ℕ, true, ◌≤◌, not, List, length, get_or, vec_capacity, refl, sym, ap, ◌∙◌, subst, inl, inr}
 use Rattle.std.proofs.lemmas.Bool.{false≢true, cases_eq}
 use Rattle.std.proofs.lemmas.List.Elements.{filter_agree}
 use Rattle.object_header.specs.Chunks.{Chunk}
@@ -14,7 +14,8 @@ use Rattle.free_lists.specs.Lists.{Lists}
 use Rattle.free_lists.specs.declared.lists.FreeLists.{FreeLists}
 use Rattle.free_lists.proofs.Given.{keeps_lists}
 use Rattle.spur_heap.specs.declared.heap.HeapParts.{HeapParts}
-use Rattle.spur_heap.specs.Parts.{view_of, ArePartsOfHeap}
+use Rattle.spur_heap.specs.Parts.{view_of, HasTables, ArePartsOfHeap}
+use Rattle.spur_heap.specs.Tables.{HasPlaces}
 use Rattle.spur_heap.specs.Words.{starts_at}
 use Rattle.spur_heap.proofs.OneCell.{with_cell, cell_here, cell_other}
 use Rattle.spur_heap.proofs.Orders.{order}
@@ -90,6 +91,18 @@ module _ (v : View) (new : List ℕ) (s : ℕ) (x : Cell) (k : Touch v new s x) 
         ∙ ap (λ (ts : List ℕ). length ts) (filter_agree (is_ordinary (with_cell (store_of v) s x)) (is_ordinary (store_of v)) ordinary (store_of v).starts);
   }
 
+-- the tables that no word tells, where other parts have them
+pub tables_kept : (p q : HeapParts) → HasTables p → length q.region ≡ length p.region
+    → q ≡ record q { mourners = p.mourners; mourned = p.mourned; marks = p.marks; saved = p.saved; limits = p.limits } → HasTables q
+tables_kept p q k long is = subst (λ (r : HeapParts). HasTables r) (sym is) (record {
+  taken = k.taken;
+  grouped = k.grouped;
+  mourner_places = subst (λ n. HasPlaces n (vec_capacity p.mourners)) (sym long) k.mourner_places;
+  mark_places = subst (λ n. HasPlaces n (vec_capacity p.marks)) (sym long) k.mark_places;
+  saved = k.saved;
+  some_saved = k.some_saved;
+})
+
 -- the parts of a heap with other words, which are whole and whose tables are the same
 pub parts_with : (p : HeapParts) → ArePartsOfHeap p → (v u : View) → view_of p ≡ v → (new : List ℕ) → view_of (record p { region = new }) ≡ u → IsWhole u → SameTables v u → ArePartsOfHeap (record p { region = new })
 parts_with p k v u same new seen whole tables = record {
@@ -104,4 +117,5 @@ parts_with p k v u same new seen whole tables = record {
   objects = record {
     count = k.objects.count ∙ ap (λ (x : View). length (ordinary_starts (store_of x))) same ∙ sym tables.count ∙ ap (λ (x : View). length (ordinary_starts (store_of x))) (sym seen);
   };
+  tables = tables_kept p (record p { region = new }) k.tables (ap (λ (x : View). length x.words) seen ∙ tables.long ∙ ap (λ (x : View). length x.words) (sym same)) refl;
 }

@@ -92,7 +92,7 @@ module _ (v : View) (new : List ℕ) (s : ℕ) (x : Cell) (k : Touch v new s x) 
         k.others j (inr (omega (arith, a, from)))
   ]
 
-  headers : (c : Chunk) → In (chunks_of v) c → c.start ≢ s → get_or new c.start 0 ≡ get_or v.words c.start 0
+  pub headers : (c : Chunk) → In (chunks_of v) c → c.start ≢ s → get_or new c.start 0 ≡ get_or v.words c.start 0
   headers c m n = let l = (chunk-stands v.words 0 (length v.words) (chunks_of v) c (order v k.sound) m).lies in other_words c m n c.start l.lead (omega (arith, l.room))
 
   before : (c : Chunk) → Contains (chunks_of touched) c → Contains (chunks_of v) c

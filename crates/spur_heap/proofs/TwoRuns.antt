@@ -7,7 +7,8 @@ use Rattle.heap_cells.proofs.CellKinds.{there_starts}
 use Rattle.heap_cells.proofs.Cutting.{start-in, stands, shape}
 use Rattle.heap_cells.proofs.Members.{In}
 use Rattle.heap_cells.proofs.Starts.{in_order}
-use Rattle.spur_heap.specs.Swaps.{lead_at, words_at, AreAlike}
+use Rattle.heap_walk.specs.Shapes.{lead_at, words_at}
+use Rattle.spur_heap.specs.Swaps.{AreAlike}
 use Rattle.spur_heap.specs.Words.{AreSound, is_object}
 use Rattle.spur_heap.proofs.Orders.{order}
 use Rattle.spur_heap.proofs.ExchangedWords.{AreRuns}

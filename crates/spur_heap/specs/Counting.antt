@@ -1,5 +1,5 @@
 -- What the words tell of internal and ordinary objects: the pages that the hidden roots name, and a count of objects.
-use Rattle.std.specs.Prelude.{ℕ, ◌+◌, ◌*◌, ◌/◌, List, [], ◌∷◌, slice_index, Bool, if◌then◌else◌, not, ◌&&◌, ◌||◌, nat_eq}
+use Rattle.std.specs.Prelude.{ℕ, ◌+◌, ◌/◌, List, [], ◌∷◌, slice_index, Bool, if◌then◌else◌, not, ◌&&◌, ◌||◌, nat_eq}
 use Rattle.object_header.specs.Head.{class_of}
 use Rattle.object_header.specs.Chunks.{Chunk}
 use Rattle.object_header.specs.declared.header.TheConstants.{FREE_CLASS, FORWARDER_CLASS}

@@ -1,9 +1,11 @@
 pub mod Words
 pub mod Sizes
 pub mod Bares
+pub mod Tables
 pub mod Parts
 pub mod Counting
 pub mod Remembering
+pub mod MarkBits
 pub mod Views
 pub mod Lending
 pub mod Fresh
@@ -17,3 +19,6 @@ pub mod Pairing
 pub mod Swaps
 pub mod Contents
 pub mod Heading
+pub mod Following
+pub mod Mourning
+pub mod Roots

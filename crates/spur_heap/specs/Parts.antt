@@ -1,5 +1,5 @@
 -- The parts of a heap, as they stand for one.
-use Rattle.std.specs.Prelude.{ℕ, ◌≡◌, List, [], length, refl, nat_eq, if◌then◌else◌}
+use Rattle.std.specs.Prelude.{ℕ, ◌≡◌, ◌≤◌, List, [], length, drop, vec_capacity, refl, nat_eq, if◌then◌else◌}
 use Rattle.std.specs.Coded.{Coded, code_by, coded×, coded_ℕ, coded_list}
 use Rattle.std.specs.FinMap.{FinMap, code}
 use Rattle.heap_walk.specs.Starts.{has_start, covered}
@@ -7,9 +7,11 @@ use Rattle.spur_graph.specs.Graph.{handle_cmp}
 use Rattle.spur_graph.specs.Cells.{is_start}
 use Rattle.spur_graph.specs.Ordinary.{ordinary_starts}
 use Rattle.spur_graph.specs.Spaces.{Spaces, old_row}
+use Rattle.handle_table.specs.Handles.{held}
 use Rattle.free_lists.specs.Rows.{free_runs}
 use Rattle.free_lists.specs.Lists.{Lists}
 use Rattle.spur_graph.specs.Heaps.{View, Phase, Whole, Marked, store_of, IsWhole}
+use Rattle.spur_heap.specs.Tables.{parted, groups_of, HasPlaces}
 use Rattle.spur_heap.specs.declared.heap.HeapParts.{HeapParts}
 use Rattle.spur_heap.specs.declared.heap.Phase as code
 use Rattle.spur_heap.specs.declared.heap.Phase.TheVariants as codes
@@ -31,18 +33,19 @@ abbrev pub phase_seen : code.Phase → Phase
 phase_seen codes.Whole = Whole
 phase_seen codes.Marked = Marked
 
--- what contracts see of the parts; there are no mourners so far
+-- what contracts see of the parts
 abbrev pub view_of : HeapParts → View
 view_of p = record {
   words = p.region;
   spaces = spaces_of p;
-  mourners = [];
-  handles = p.handles;
+  mourners = groups_of p.mourned p.mourners.items;
+  handles = held p.handles;
   special = p.special;
   hash = p.hash;
   carried = p.carried;
   limits = p.limits;
   phase = phase_seen p.phase;
+  stack = p.marks.items;
 }
 
 -- the map has the starts of objects and forwarders, and no other
@@ -58,12 +61,22 @@ pub record HasLists (p : HeapParts) : Type 0 where
 pub record HasCount (p : HeapParts) : Type 0 where
   pub count : p.objects ≡ length (ordinary_starts (store_of (view_of p)))
 
+-- the table of mourners begins with a group, and the tables have their places
+pub record HasTables (p : HeapParts) : Type 0 where
+  pub taken : p.mourned ≤ length p.mourners.items
+  pub grouped : (parted (drop p.mourned p.mourners.items)).front ≡ []
+  pub mourner_places : HasPlaces (length p.region) (vec_capacity p.mourners)
+  pub mark_places : HasPlaces (length p.region) (vec_capacity p.marks)
+  pub saved : length p.saved.items ≡ p.limits.saved
+  pub some_saved : 1 ≤ p.limits.saved
+
 -- the parts stand for a graph, and each table has what the words tell
 pub record ArePartsOfHeap (p : HeapParts) : Type 0 where
   pub whole : IsWhole (view_of p)
   pub map : HasMap p
   pub free_chunks : HasLists p
   pub objects : HasCount p
+  pub tables : HasTables p
 
 -- phases as numbers
 abbrev number_of : Phase → ℕ
@@ -93,13 +106,13 @@ spaces_code = code_by Seven
 
 -- a view as a tuple of what has a code
 abbrev pub Fields : Type 0
-Fields = List ℕ × (FinMap handle_cmp ℕ × (ℕ × (ℕ × (List ℕ × (ℕ × (ℕ × (ℕ × (ℕ × (Spaces × (List (List ℕ) × Phase))))))))))
+Fields = List ℕ × (FinMap handle_cmp ℕ × (ℕ × (ℕ × (List ℕ × (ℕ × (ℕ × (ℕ × (ℕ × (Spaces × (List (List ℕ) × (Phase × List ℕ)))))))))))
 
 abbrev pub view_code : Coded View
 view_code = code_by Fields
     (coded× (coded_list coded_ℕ) (coded× (code (coded× coded_ℕ (coded_list coded_ℕ)) coded_ℕ) (coded× coded_ℕ (coded× coded_ℕ (coded× (coded_list coded_ℕ)
-    (coded× coded_ℕ (coded× coded_ℕ (coded× coded_ℕ (coded× coded_ℕ (coded× spaces_code (coded× (coded_list (coded_list coded_ℕ)) phase_code)))))))))))
-    (λ v. (v.words, (v.handles, (v.special, (v.hash, (v.carried, (v.limits.eden, (v.limits.survivor, (v.limits.room, (v.limits.saved, (v.spaces, (v.mourners, v.phase))))))))))))
+    (coded× coded_ℕ (coded× coded_ℕ (coded× coded_ℕ (coded× coded_ℕ (coded× spaces_code (coded× (coded_list (coded_list coded_ℕ)) (coded× phase_code (coded_list coded_ℕ)))))))))))))
+    (λ v. (v.words, (v.handles, (v.special, (v.hash, (v.carried, (v.limits.eden, (v.limits.survivor, (v.limits.room, (v.limits.saved, (v.spaces, (v.mourners, (v.phase, v.stack)))))))))))))
     (λ t. record {
       words = t.0;
       handles = t.1.0;
@@ -109,6 +122,7 @@ view_code = code_by Fields
       limits = record { eden = t.1.1.1.1.1.0; survivor = t.1.1.1.1.1.1.0; room = t.1.1.1.1.1.1.1.0; saved = t.1.1.1.1.1.1.1.1.0 };
       spaces = t.1.1.1.1.1.1.1.1.1.0;
       mourners = t.1.1.1.1.1.1.1.1.1.1.0;
-      phase = t.1.1.1.1.1.1.1.1.1.1.1;
+      phase = t.1.1.1.1.1.1.1.1.1.1.1.0;
+      stack = t.1.1.1.1.1.1.1.1.1.1.1.1;
     })
     (λ _. refl)

@@ -1,8 +1,9 @@
 -- Words of two runs change places, and so the contents of two objects.
-use Rattle.std.specs.Prelude.{ℕ, ◌≡◌, suc, zero, ◌+◌, ◌-◌, max, List, slice_index, slice_set, Bool, ◌||◌, ◌&&◌, if◌then◌else◌, nat_lt}
+use Rattle.std.specs.Prelude.{ℕ, ◌≡◌, suc, zero, ◌+◌, ◌-◌, List, slice_index, slice_set, Bool, ◌||◌, ◌&&◌, nat_lt}
 use Rattle.object_header.specs.Field.{with_field}
 use Rattle.object_header.specs.Fields.{fields_of}
-use Rattle.object_header.specs.Chunks.{leads, slots_at}
+use Rattle.object_header.specs.Chunks.{leads}
+use Rattle.heap_walk.specs.Shapes.{lead_at, words_at}
 use Rattle.spur_graph.specs.Heaps.{View, store_of, is_remembered, names_over}
 use Rattle.spur_heap.specs.Flags.{flag_bit}
 
@@ -10,13 +11,6 @@ use Rattle.spur_heap.specs.Flags.{flag_bit}
 unfoldable pub swap_run : List ℕ → ℕ → ℕ → ℕ → List ℕ
 swap_run words a b zero = words
 swap_run words a b (suc i) = slice_set (slice_set (swap_run words a b i) (a + i) (slice_index (swap_run words a b i) (b + i))) (b + i) (slice_index (swap_run words a b i) (a + i))
-
--- how many words of an object stand before its header, and how many it has in all
-abbrev pub lead_at : List ℕ → ℕ → ℕ
-lead_at words s = if leads (slice_index words s) then 1 else 0
-
-abbrev pub words_at : List ℕ → ℕ → ℕ
-words_at words s = lead_at words s + 1 + max 1 (slots_at words s)
 
 -- two objects have as many words, and both or neither have an overflow word
 pub record AreAlike (words : List ℕ) (a b : ℕ) : Type 0 where

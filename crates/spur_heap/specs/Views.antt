@@ -54,6 +54,7 @@ adopted b special hash carried = record {
   carried = carried;
   limits = b.limits;
   phase = Whole;
+  stack = [];
 }
 
 -- the headers of places that stand for a heap have nothing that a collection leaves, so that nothing is remembered

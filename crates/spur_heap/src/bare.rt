@@ -1,13 +1,13 @@
 // The places and tables of a heap before its words are there.
 ghost use Rattle.std.specs.Prelude.{◌≡◌, ◌+◌, ◌*◌, ◌^◌, ◌≤◌, ℕ, IfOk, length, replicate, false};
-ghost use Rattle.std.specs.FinMap as map;
 ghost use Rattle.heap_walk.specs.Starts.{has_start, covered};
 ghost use Rattle.std.specs.Borrow.{sem};
 ghost use Rattle.spur_heap.specs.Bares.{room_of};
 ghost use Rattle.spur_heap.specs.Lending.{LendsRegion};
+ghost use Rattle.spur_heap.specs.Tables.{HasEmptyTables, IsUnbound};
 
 use handle_table::HandleTable;
-use heap_walk::StartMap;
+use heap_walk::{Saved, StartMap};
 use spur_graph::Limits;
 use spur_words::{NoMemory, Region};
 use std::alloc::Global;
@@ -21,6 +21,12 @@ pub struct Bare {
     pub old_end: usize,
     /// The starts of objects and forwarders: none.
     pub starts: StartMap,
+    /// The mourners: none, with a place for each object that the region can hold.
+    pub mourners: Vec<u32>,
+    /// The mark stack: empty, with as many places.
+    pub marks: Vec<u32>,
+    /// The table that keeps first fields aside, of as many entries as the limits say.
+    pub saved: Vec<Saved>,
     /// The handles: none.
     pub handles: HandleTable,
     /// How large the spaces and tables were asked to be.
@@ -32,16 +38,28 @@ impl Bare {
     /// words together; all are 0. [`NoMemory`] where they are not to be had.
     pub fn new(alloc: Global, old_words: usize, limits: Limits) -> Result<Bare, NoMemory>
         requires few { room_of old_words limits ≤ 2 ^ 27 }
+        requires some_saved { 1 ≤ limits.saved }
         ensures zeros { IfOk result (λ bare. bare.region ≡ replicate (room_of old_words limits) 0) }
         ensures covers { IfOk result (λ bare. covered bare.starts ≡ room_of old_words limits) }
         ensures unmarked { IfOk result (λ bare. (s : ℕ) → has_start bare.starts s ≡ false) }
-        ensures unbound { IfOk result (λ bare. bare.handles ≡ map.empty) }
+        ensures unbound { IfOk result IsUnbound }
+        ensures tables { IfOk result HasEmptyTables }
         ensures limits { IfOk result (λ bare. bare.limits ≡ limits) }
         ensures end { IfOk result (λ bare. bare.old_end ≡ old_words) }
     {
         let words = old_words + limits.eden + 2 * limits.survivor;
         let region = Region::new(alloc, words)?;
         let starts = StartMap::new(alloc, words)?;
+        let objects = words / 2;
+        let Ok(mourners) = Vec::with_capacity(alloc, objects) else {
+            return Err(NoMemory);
+        };
+        let Ok(marks) = Vec::with_capacity(alloc, objects) else {
+            return Err(NoMemory);
+        };
+        let Ok(saved) = Vec::from_elem(alloc, Saved { start: 0, first: 0 }, limits.saved) else {
+            return Err(NoMemory);
+        };
         let Ok(handles) = HandleTable::new(alloc) else {
             return Err(NoMemory);
         };
@@ -49,6 +67,9 @@ impl Bare {
             region,
             old_end: old_words,
             starts,
+            mourners,
+            marks,
+            saved,
             handles,
             limits,
         })

@@ -17,12 +17,12 @@ impl Heap {
         parts.objects as u64
     }
 
-    /// How many objects wait among the mourners: none so far, since nothing fires.
+    /// How many objects wait among the mourners, of all groups together. The number is kept.
     pub fn mourner_count(&self) -> usize
         ensures { result ≡ length (waiting (heap_graph self.now)) }
     {
-        let _parts = &self.parts;
-        0
+        let parts = &self.parts;
+        parts.mourners.as_slice().len() - parts.mourned
     }
 
     /// The words of all free chunks of old space together. The number is kept.

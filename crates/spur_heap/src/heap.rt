@@ -8,6 +8,7 @@ ghost use Rattle.spur_graph.specs.Cells.{first};
 ghost use Rattle.spur_graph.specs.Graph.{IsClosed};
 ghost use Rattle.spur_graph.specs.Heaps.{heap_graph, heap_value, IsWhole};
 ghost use Rattle.heap_cells.specs.Settled.{word_of};
+ghost use Rattle.spur_heap.specs.Tables.{HasEmptyTables, IsUnbound};
 ghost use Rattle.spur_heap.specs.Views.{Adopts, AreClear, IsGood, adopted, class_word, follows, store};
 
 use crate::adopting::make_tables;
@@ -17,7 +18,7 @@ use crate::classes::class_word;
 use crate::places::first_word;
 use free_lists::FreeLists;
 use handle_table::HandleTable;
-use heap_walk::StartMap;
+use heap_walk::{Saved, StartMap};
 use spur_graph::{HandleName, Limits, Refusal, words_fit};
 use spur_words::Region;
 use std::marker::Model;
@@ -47,6 +48,14 @@ pub struct HeapParts {
     pub free: FreeLists,
     /// How many ordinary objects there are, in all spaces.
     pub objects: usize,
+    /// The starts of the mourners, group after group; 2^31 is added where one begins a group. There is a place for each object that the region can hold.
+    pub mourners: Vec<u32>,
+    /// How many of the first entries of `mourners` were taken away.
+    pub mourned: usize,
+    /// The mark stack: starts of marked objects whose slots were not passed yet, the latest last, with a place for each object that the region can hold.
+    pub marks: Vec<u32>,
+    /// The table that keeps first fields aside during a compaction, of as many entries as the limits say.
+    pub saved: Vec<Saved>,
     /// The words of handles, by mutator and name.
     pub handles: HandleTable,
     /// The state from which identity hashes are drawn.
@@ -97,7 +106,8 @@ impl Heap {
     pub fn adopt(bare: Bare, special: u64, hash: u32, carried: [u8; 128]) -> Heap
         requires covers { covered bare.starts ≡ length bare.region }
         requires unmarked { (s : ℕ) → has_start bare.starts s ≡ false }
-        requires unbound { bare.handles ≡ map.empty }
+        requires unbound { IsUnbound bare }
+        requires tables { HasEmptyTables bare }
         requires whole { IsWhole (adopted bare special hash carried) }
         requires clear { AreClear (adopted bare special hash carried) }
         ensures { Adopts (adopted bare special hash carried) result }
@@ -106,6 +116,9 @@ impl Heap {
             region,
             old_end,
             starts,
+            mourners,
+            marks,
+            saved,
             handles,
             limits,
         } = bare;
@@ -122,6 +135,10 @@ impl Heap {
             starts,
             free: FreeLists::new(),
             objects: 0,
+            mourners,
+            mourned: 0,
+            marks,
+            saved,
             handles,
             hash,
             special,

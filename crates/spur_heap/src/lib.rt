@@ -12,7 +12,10 @@
 //! - `bits`: no header has a grey bit or a bit of no field, and where the phase is `Whole` none has a mark bit.
 //!
 //! Beside it, each table agrees with the words: the map has the starts of objects and forwarders, the free lists have the free chunks of old space, and
-//! the number of ordinary objects is kept.
+//! the number of ordinary objects is kept. The mark stack and the table of mourners have a place for each object that the words can hold, so that neither
+//! a marking nor an ephemeron that fires asks for memory.
+//! the number of ordinary objects is kept. The mark stack and the table of mourners have a place for each object that the words can hold, so that none of
+//! them ever asks for memory.
 //!
 //! What reads words here asks for `spaces`, `rows`, `sound` and `few` alone, and so serves between two steps of a write as well.
 //!
@@ -25,15 +28,19 @@ mod allocation;
 mod bare;
 mod chains;
 mod classes;
+mod clearing;
 mod counts;
 mod entries;
 mod exchanging;
 mod flags;
+mod follow;
 mod forwarding;
 mod hashes;
 mod head;
 mod heap;
 mod making;
+mod marks;
+mod mourners;
 mod naming;
 mod objects;
 mod pairs;

@@ -9,6 +9,7 @@ ghost use Rattle.spur_graph.specs.Heaps.{heap_graph, heap_value};
 ghost use Rattle.spur_heap.specs.Views.{IsGood, IsOrdinary, node_in};
 
 use crate::heap::Heap;
+use crate::mourners::{NAMED_SLOTS_FORMAT, mourns};
 
 impl Heap {
     /// The word that refers to an object.
@@ -78,12 +79,16 @@ impl Heap {
         self.header(start).readonly() == 1
     }
 
-    /// Whether an object waits among the mourners: none does so far, since nothing fires.
+    /// Whether an object waits among the mourners. Of an object of format 1 it costs a walk along the mourners and the forwarders to which they lead, of
+    /// any other a look at its header: whatever waits has that format.
     pub fn is_mourner(&self, start: usize) -> bool
         requires there { IsOrdinary self.now start }
         ensures { result ≡ waits (heap_graph self.now) start }
     {
-        let _parts = &self.parts;
-        false
+        let parts = &self.parts;
+        if self.header(start).format() != NAMED_SLOTS_FORMAT {
+            return false;
+        }
+        mourns(parts, start)
     }
 }

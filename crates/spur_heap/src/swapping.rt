@@ -4,13 +4,13 @@ ghost use Rattle.object_header.specs.Chunks.{StandsAt};
 ghost use Rattle.spur_words.specs.Runs.{IsApart};
 ghost use Rattle.spur_heap.specs.Parts.{view_of};
 ghost use Rattle.spur_heap.specs.Words.{AreSound, is_object};
-ghost use Rattle.spur_heap.specs.Swaps.{swap_run, lead_at, words_at, AreAlike, remembers, header_for, exchanged_words};
+ghost use Rattle.heap_walk.specs.Shapes.{lead_at, words_at};
+ghost use Rattle.spur_heap.specs.Swaps.{swap_run, AreAlike, remembers, header_for, exchanged_words};
 
 use crate::flags::bit;
 use crate::heap::HeapParts;
 use crate::taking::is_remembered_with;
-use heap_walk::slots_of;
-use object_header::{Header, OVERFLOW_COUNT};
+use object_header::Header;
 use spur_words::Region;
 
 /// The `n` words from the index `a` on and those from the index `b` on change places.
@@ -34,11 +34,7 @@ fn lead_of(region: &Region, start: usize) -> usize
     requires inside { start < length region.now }
     ensures { result ≡ lead_at region.now start }
 {
-    if Header(region.get(start)).count() == OVERFLOW_COUNT {
-        1
-    } else {
-        0
-    }
+    heap_walk::lead_of(region.as_slice(), start)
 }
 
 /// How many words an object has, with those before its header.
@@ -46,7 +42,7 @@ fn words_of(region: &Region, start: usize) -> usize
     requires stands { StandsAt region.now start }
     ensures { result ≡ words_at region.now start }
 {
-    lead_of(region, start) + 1 + slots_of(region.as_slice(), start).max(1)
+    heap_walk::words_of(region.as_slice(), start)
 }
 
 /// Whether a place is remembered once it has the contents of another object: it was, or it has to be.

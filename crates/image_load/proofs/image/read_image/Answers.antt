@@ -16,7 +16,7 @@ returns-in-Ok-read_words-clause-image g c =
     let told = g.F.Files.told c.args.files.now in
     let name : List ℕ = c.args.name.now in
     let front = c.in-Ok.front in
-    let bare : Bare = record { region = c.read_words.new.region; old_end = c.in-Ok-new.bare.old_end; starts = c.in-Ok-new.bare.starts; handles = c.in-Ok-new.bare.handles; limits = c.in-Ok-new.bare.limits } in
+    let bare : Bare = record c.in-Ok-new.bare { region = c.read_words.new.region } in
     let Of : List ℕ → Type 0 = λ bytes. IsImageOf bytes (record { header = front.header; map = front.map; bare = bare }) in
     let Front : List ℕ → Type 0 = λ bytes. IsFrontOf bytes c.args.limits front in
     let Words : List ℕ → Type 0 = λ bytes. take (total_words front.map) bare.region ≡ flat_map (segment_words bytes) front.map in

@@ -8,6 +8,7 @@ use Rattle.image_load.specs.declared.image.Image.{Image}
 use Rattle.spur_graph.specs.Cells.{Store}
 use Rattle.image_load.specs.Images.{IsImageOf, IsSoundImage, AreSettled}
 use Rattle.image_load.specs.Passes.{AreTried}
+use Rattle.image_load.proofs.Reading.{still_empty}
 use Rattle.image_load.proofs.Adopting.{tried, view, image_whole, image_clear, image_stands, adopted_stands, adopted_in_order}
 use Rattle.image_load.proofs.loader.adopt.Goals as goal
 
@@ -53,6 +54,10 @@ adopt-heap-requires-clause-clear c =
     let h = file_store image.map a.mid in
     let room = room_behind image c.requires c.words.result c.settle_front.new.region c.put_room.new.region h c.words.ensures (c.put_room.ensures.heap h) a.alone in
     image_clear image c.requires front c.put_room.new.region c.in-Ok.special a room (c.put_room.ensures.same_len ∙ c.in-Ok.ensures.long ∙ ap length c.region_mut-region.ensures.value)
+
+pub adopt-heap-requires-clause-tables : goal.adopt-heap-requires-clause-tables
+adopt-heap-requires-clause-tables c =
+    still_empty c.args.image.bare c.put_room.new.region (c.put_room.ensures.same_len ∙ c.in-Ok.ensures.long ∙ ap length c.region_mut-region.ensures.value) c.requires.tables
 
 pub returns-clause-unmarked : goal.returns-clause-unmarked
 returns-clause-unmarked c = ap (λ (v : View). v.phase) c.adopt-heap.ensures.rest

@@ -1,10 +1,18 @@
-use Rattle.std.proofs.Common.{rules, ◌+◌, ℕ, ◌∙◌, arith}
-use Rattle.spur_io.proofs.Changes.{on_err}
+use Rattle.std.proofs.Common.{rules, ◌+◌, ℕ, ◌∙◌, arith, inl, inr, Err}
+use Rattle.spur_io.proofs.Changes.{on_err, told_as}
 use Rattle.spur_io.proofs.Fronts.{begun_front, begun_short, front_more, front_short, front_whole}
+use Rattle.spur_io.specs.Store.{Begins}
 use Rattle.spur_heap.specs.Parts.{view_of}
+use Rattle.image_save.specs.Saved.{IsCutShort}
 use Rattle.image_save.proofs.Pieces.{saved_pieces, text_is}
 use Rattle.image_save.proofs.Ready.{ready_first}
 use Rattle.image_save.proofs.saver.save_parts.Goals as goal
+
+pub returns-in_err-begin-clause-cut : goal.returns-in_err-begin-clause-cut
+returns-in_err-begin-clause-cut g c =
+    on_err c.from_residual.result
+    (told_as (g.F.Files.told c.args.files.now) (g.F.Files.told c.begin.new.self) c.args.name.now (Begins (Err c.in_err-begin.field-0.0)) (IsCutShort (view_of c.args.parts.now))
+    (λ old new begun. elim begun [ inl same ↦ inl same | inr none ↦ inr (0, none) ]) c.in_err-begin.ensures.bytes)
 
 pub returns-in_err-append-clause-cut : goal.returns-in_err-append-clause-cut
 returns-in_err-append-clause-cut g c =

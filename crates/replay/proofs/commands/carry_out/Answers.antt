@@ -2,7 +2,7 @@ use Rattle.std.proofs.Common.{◌∙◌, List, ℕ, sym, ap, refl, rules, arith,
 use Rattle.spur_graph.specs.declared.answer.Value.TheVariants.{Ref}
 use Rattle.spur_graph.specs.declared.answer.Value.TheVariants as values
 use Rattle.spur_graph.specs.declared.answer.Answer.TheVariants as answers
-use Rattle.spur_graph.specs.Form.{Special, Nil, Yes, No, Int, Char, Float, Copy, Drop, Kind, Class, Size, Fetch, Store, Unit, SetUnit, Same, Enter, Hash, Stat, Forward, Unpin, ReadOnly, Writable}
+use Rattle.spur_graph.specs.Form.{Special, Nil, Yes, No, Int, Char, Float, Copy, Drop, Kind, Class, Size, Fetch, Store, Unit, SetUnit, Same, Enter, Hash, Stat, Forward, Unpin, ReadOnly, Writable, Mourn}
 use Rattle.std.specs.Result.{result_err}
 use Rattle.replay.specs.Sessions.{graph_of, value_in}
 use Rattle.spur_heap.proofs.Leads.{root_value}
@@ -197,3 +197,12 @@ returns-in-Writable-clause-refusal c = rw (c.in-Writable.is) c.protect-in-Writab
 pub returns-in-Writable-clause-done : goal.returns-in-Writable-clause-done
 returns-in-Writable-clause-done c =
     rw (c.in-Writable.is) (exactly c.args.heap.now c.protect-in-Writable.new.heap c.args.mutator (Writable c.in-Writable.o.bytes) c.protect-in-Writable.result c.protect-in-Writable.ensures.done)
+
+pub returns-in-Gc-clause-done : goal.returns-in-Gc-clause-done
+returns-in-Gc-clause-done c = rw (c.in-Gc.is) c.collect_dead.ensures.done
+
+pub returns-in-Mourn-clause-refusal : goal.returns-in-Mourn-clause-refusal
+returns-in-Mourn-clause-refusal c = rw (c.in-Mourn.is) c.mourn_one.ensures.refusal
+
+pub returns-in-Mourn-clause-done : goal.returns-in-Mourn-clause-done
+returns-in-Mourn-clause-done c = rw (c.in-Mourn.is) (exactly c.args.heap.now c.mourn_one.new.heap c.args.mutator (Mourn c.in-Mourn.h.bytes) c.mourn_one.result c.mourn_one.ensures.done)

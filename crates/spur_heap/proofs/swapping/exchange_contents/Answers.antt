@@ -1,7 +1,7 @@
 use Rattle.std.proofs.Common.{◌-◌, length, ap, ◌∙◌, arith}
 use Rattle.std.proofs.lemmas.List.{length-set}
 use Rattle.spur_heap.specs.Parts.{view_of}
-use Rattle.spur_heap.specs.Swaps.{lead_at, words_at}
+use Rattle.heap_walk.specs.Shapes.{lead_at, words_at}
 use Rattle.spur_heap.proofs.TwoRuns.{two_runs}
 use Rattle.spur_heap.proofs.ExchangedWords.{apart}
 use Rattle.spur_heap.proofs.Headers.{header_inside}

@@ -6,15 +6,16 @@ use Rattle.spur_heap.specs.Parts.{view_of, ArePartsOfHeap}
 use Rattle.spur_heap.specs.Views.{IsOrdinary, IsGood}
 use Rattle.spur_heap.specs.Entering.{CanEnter}
 use Rattle.spur_heap.specs.Remembering.{remembered_for}
-use Rattle.spur_heap.proofs.Puts.{start_inside}
+use Rattle.spur_heap.proofs.Puts.{start_inside, whole_sound}
+use Rattle.spur_heap.proofs.PageAt.{page_read, slot_inside}
 use Rattle.spur_heap.proofs.Tables.{parts_with}
 use Rattle.spur_heap.proofs.Storing.{remembered_for_long, stored_seen}
-use Rattle.spur_heap.proofs.EntryPut.{page_start, page_read, slot_inside, entered_at, entered_whole, entered_tables, entered_ordinary_kept, entered_good, entered_value, entered_graph, entered_room}
+use Rattle.spur_heap.proofs.EntryPut.{start_of_page, entered_at, entered_whole, entered_tables, entered_ordinary_kept, entered_good, entered_value, entered_graph, entered_room}
 use Rattle.spur_heap.proofs.heap.Heap.put_entry.Goals as goal
 
 -- the word that was read names the page
-page_at : (p v : View) → p ≡ v → (whole : IsWhole v) (index start : ℕ) (can : CanEnter v index start) (word : ℕ) → word ≡ root_slot (store_of p) (index / 1024) → word / 8 ≡ page_start v whole index start can
-page_at p v same whole index start can word is = ap (λ w. w / 8) (is ∙ ap (λ (u : View). root_slot (store_of u) (index / 1024)) same) ∙ page_read v whole index start can
+page_at : (p v : View) → p ≡ v → (whole : IsWhole v) (index start : ℕ) (can : CanEnter v index start) (word : ℕ) → word ≡ root_slot (store_of p) (index / 1024) → word / 8 ≡ start_of_page v whole index start can
+page_at p v same whole index start can word is = ap (λ w. w / 8) (is ∙ ap (λ (u : View). root_slot (store_of u) (index / 1024)) same) ∙ page_read v (whole_sound v whole) index can.below can.page
 
 pub overflow_mul-word : goal.overflow_mul-word
 overflow_mul-word c =
@@ -27,14 +28,14 @@ pub remember_for-requires : goal.remember_for-requires
 remember_for-requires c =
     let whole : IsWhole c.args.self.now = subst (λ (v : View). IsWhole v) c.self.view_is c.self.invariant.whole in
     let at = page_at (view_of c.self.inside.parts) c.args.self.now c.self.view_is whole c.args.index c.args.start c.requires.can c.root_word.result c.root_word.ensures in
-    let low = slot_inside c.args.self.now whole c.args.index c.args.start c.requires.can in
+    let low = slot_inside c.args.self.now (whole_sound c.args.self.now whole) c.args.index c.requires.can.below c.requires.can.page in
     record { inside = subst (λ (v : View). c.root_word.result / 8 < length v.words) (sym c.self.view_is) (omega (arith, at, low)) }
 
 pub put-requires : goal.put-requires
 put-requires c =
     let whole : IsWhole c.args.self.now = subst (λ (v : View). IsWhole v) c.self.view_is c.self.invariant.whole in
     let at = page_at (view_of c.self.inside.parts) c.args.self.now c.self.view_is whole c.args.index c.args.start c.requires.can c.root_word.result c.root_word.ensures in
-    let low = slot_inside c.args.self.now whole c.args.index c.args.start c.requires.can in
+    let low = slot_inside c.args.self.now (whole_sound c.args.self.now whole) c.args.index c.requires.can.below c.requires.can.page in
     let long : length c.remember_for.new.parts.region ≡ length c.args.self.now.words =
     ap (λ (p : HeapParts). length p.region) c.remember_for.ensures ∙ remembered_for_long (view_of c.self.inside.parts) (c.root_word.result / 8) (8 * c.args.start) ∙ ap (λ (v : View). length v.words) c.self.view_is in
     omega (arith, at, low, long)
@@ -45,7 +46,7 @@ seen : (p : HeapParts) (v : View) → view_of p ≡ v → (whole : IsWhole v) (i
     → (new : List ℕ) → new ≡ set q.region (word / 8 + 1 + index % 1024) (8 * start) → view_of (record q { region = new }) ≡ entered_at v whole index start can
 seen p v same whole index start can word word_is q is new new_is =
     let at = page_at (view_of p) v same whole index start can word word_is in
-    stored_seen p v same (page_start v whole index start can) (index % 1024) (8 * start) q (is ∙ ap (λ s. let r : HeapParts = record p { region = (remembered_for (view_of p) s (8 * start)).words } in r) at) new
+    stored_seen p v same (start_of_page v whole index start can) (index % 1024) (8 * start) q (is ∙ ap (λ s. let r : HeapParts = record p { region = (remembered_for (view_of p) s (8 * start)).words } in r) at) new
     (new_is ∙ ap (λ s. set q.region (s + 1 + index % 1024) (8 * start)) at)
 
 -- the same of a call

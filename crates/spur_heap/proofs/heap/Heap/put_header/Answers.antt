@@ -1,8 +1,9 @@
 use Rattle.std.proofs.Common.{◌≡◌, ◌<◌, ℕ, List, length, set, ap, sym, ◌∙◌, subst}
-use Rattle.spur_graph.specs.Heaps.{View, IsWhole, heap_value, heap_graph, heap_room}
+use Rattle.spur_graph.specs.Ordinary.{is_ordinary}
+use Rattle.spur_graph.specs.Heaps.{View, IsWhole, store_of, heap_value, heap_graph, heap_room}
 use Rattle.spur_heap.specs.Parts.{view_of}
 use Rattle.spur_heap.specs.Remembering.{after}
-use Rattle.spur_heap.specs.Views.{IsOrdinary, IsGood}
+use Rattle.spur_heap.specs.Words.{is_good}
 use Rattle.spur_heap.proofs.Tables.{parts_with}
 use Rattle.spur_heap.proofs.Headed.{inside, headed_at, headed_whole, headed_tables, headed_ordinary, headed_good, headed_value, headed_graph, headed_room}
 use Rattle.spur_heap.proofs.heap.Heap.put_header.Goals as goal
@@ -42,11 +43,11 @@ returns-clause-values c u =
     ap (λ (v : View). heap_value v u) (returns-clause-written c) ∙ headed_value c.args.self.now whole c.args.start c.requires.there c.args.header.0 c.requires.can u
 
 pub returns-clause-goods : goal.returns-clause-goods
-returns-clause-goods c u good =
+returns-clause-goods c u =
     let whole : IsWhole c.args.self.now = subst (λ (v : View). IsWhole v) c.self.view_is c.self.invariant.whole in
-    subst (λ (v : View). IsGood v u) (sym (returns-clause-written c)) (headed_good c.args.self.now whole c.args.start c.requires.there c.args.header.0 c.requires.can u good)
+    ap (λ (v : View). is_good v u) (returns-clause-written c) ∙ headed_good c.args.self.now whole c.args.start c.requires.there c.args.header.0 c.requires.can u
 
 pub returns-clause-ordinary : goal.returns-clause-ordinary
-returns-clause-ordinary c t there =
+returns-clause-ordinary c t =
     let whole : IsWhole c.args.self.now = subst (λ (v : View). IsWhole v) c.self.view_is c.self.invariant.whole in
-    subst (λ (v : View). IsOrdinary v t) (sym (returns-clause-written c)) (headed_ordinary c.args.self.now whole c.args.start c.requires.there c.args.header.0 c.requires.can t there)
+    ap (λ (v : View). is_ordinary (store_of v) t) (returns-clause-written c) ∙ headed_ordinary c.args.self.now whole c.args.start c.requires.there c.args.header.0 c.requires.can t

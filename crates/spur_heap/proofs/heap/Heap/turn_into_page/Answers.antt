@@ -1,4 +1,4 @@
-use Rattle.std.proofs.Common.{◌≡◌, ◌+◌, ◌-◌, ◌*◌, ◌<◌, ℕ, List, length, set, ap, sym, ◌∙◌, subst, arith}
+use Rattle.std.proofs.Common.{◌≡◌, ◌+◌, ◌-◌, ◌*◌, ◌<◌, ℕ, List, length, set, refl, ap, sym, ◌∙◌, subst, arith}
 use Rattle.std.proofs.lemmas.List.{length-set}
 use Rattle.spur_graph.specs.Cells.{first}
 use Rattle.spur_graph.specs.Ordinary.{ordinary_starts}
@@ -8,7 +8,7 @@ use Rattle.spur_heap.specs.Parts.{view_of, ArePartsOfHeap}
 use Rattle.spur_heap.specs.Words.{starts_at}
 use Rattle.spur_heap.specs.Entering.{CanTurn, TurnsIntoPage}
 use Rattle.spur_heap.proofs.Puts.{start_inside}
-use Rattle.spur_heap.proofs.Tables.{HasFreeLists}
+use Rattle.spur_heap.proofs.Tables.{HasFreeLists, tables_kept}
 use Rattle.spur_heap.proofs.Turned.{turned, turned_whole, turned_starts, turned_lists, turned_inside}
 use Rattle.spur_heap.proofs.TurnedGraph.{turns, turned_count}
 use Rattle.spur_heap.proofs.heap.Heap.turn_into_page.Goals as goal
@@ -48,6 +48,8 @@ module _ (p : HeapParts) (v : View) (same : view_of p ≡ v) (k : ArePartsOfHeap
           objects = record {
             count = (let c = count_is in let less : p.objects - 1 ≡ length (ordinary_starts (store_of then)) = omega (arith, c) in less) ∙ ap (λ (u : View). length (ordinary_starts (store_of u))) (sym told);
           };
+          tables = tables_kept p (record p { region = new; objects = p.objects - 1 }) k.tables
+              (ap (λ (ws : List ℕ). length ws) is ∙ length-set p.region (roots + 1 + place) (8 * start)) refl;
         }
 
     turns_then : (new : List ℕ) → new ≡ set p.region (roots + 1 + place) (8 * start) → TurnsIntoPage v (view_of (record p { region = new; objects = p.objects - 1 })) place start

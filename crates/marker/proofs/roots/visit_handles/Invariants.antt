@@ -1,0 +1,9 @@
+use Rattle.marker.specs.Roots.{MarkedOf, NamedByHandle}
+use Rattle.marker.specs.Visits.{Visits, unmarked}
+use Rattle.marker.proofs.roots.visit_handles.Given as goal
+
+abbrev pub invariant-handles : goal.invariant-handles
+invariant-handles l = record { visits : Visits (MarkedOf (NamedByHandle l.fn.heap) l.heap) l.fn.heap l.heap }
+
+abbrev pub decreases-handles : goal.decreases-handles
+decreases-handles l = unmarked l.heap

@@ -1,0 +1,7 @@
+pub mod Marks
+pub mod Visits
+pub mod Roots
+pub mod Followed
+pub mod Marked
+pub mod Firing
+pub mod Finished

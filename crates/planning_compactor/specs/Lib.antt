@@ -1,0 +1,12 @@
+pub mod Spans
+pub mod Entries
+pub mod Pins
+pub mod Readdressed
+pub mod Slid
+pub mod Planning
+pub mod Objects
+pub mod Roots
+pub mod Compacted
+pub mod Filled
+pub mod Ranges
+pub mod Heaps
