@@ -203,8 +203,8 @@ def collect_garbage(program, folder, runs):
         ("3-slot objects, half garbage", write_list, 8_000_000, 2, "16777216"),
         ("a list of 3-slot objects", write_list, 1_000_000, 1, "4096"),
         ("a list, half garbage", write_list, 200_000, 2, "4096"),
-        ("ephemerons, a round each", write_ephemerons, 1_000, None, "4096"),
-        ("ephemerons, a round each", write_ephemerons, 4_000, None, "4096"),
+        ("ephemerons, a round each", write_ephemerons, 10_000, None, "4096"),
+        ("ephemerons, a round each", write_ephemerons, 100_000, None, "4096"),
     ]:
         writer = multiprocessing.Process(target=write, args=(image, count) if of is None else (image, count, of))
         writer.start()

@@ -33,7 +33,7 @@ abbrev pinning : Room → Spot → ℕ → Option Served → Option Room
 pinning room spot a served = if is_old spot.space then Some room else option_map (λ served. placed served.room a (record spot { space = Old })) served
 
 module _ {R S : Room} {p : ℕ → ℕ} (back : ℕ → ℕ) (left : (a : ℕ) → back (p a) ≡ a) (k : SameRoom R S p) where
-  spot-same : (a : ℕ) → spot_at S (p a) ≡ spot_at R a
+  pub spot-same : (a : ℕ) → spot_at S (p a) ≡ spot_at R a
   spot-same a = ap (λ o. unwrap_or o no_spot) (k.spots a)
 
   needs_no_words-same : (a b : ℕ) → needs_no_words S (p a) (p b) ≡ needs_no_words R a b

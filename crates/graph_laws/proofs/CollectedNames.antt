@@ -1,5 +1,5 @@
 -- A state that speaks only of names that have nodes goes on so after a collection.
-use Rattle.std.proofs.Common.{◌≡◌, ◌≤◌, ℕ, Bool, true, false, cond, ◌==◌, ◌&&◌, if◌then◌else◌, List, [], ◌∷◌, ◌++◌, get_or, refl, sym, ap, ◌∙◌, subst, Some, None}
+use Rattle.std.proofs.Common.{◌≡◌, ◌≤◌, ℕ, Bool, true, false, cond, ◌==◌, ◌&&◌, ◌||◌, if◌then◌else◌, List, [], ◌∷◌, ◌++◌, get_or, refl, sym, ap, ◌∙◌, subst, Some, None, Option}
 use Rattle.std.proofs.lemmas.List.{append-nil}
 use Rattle.std.proofs.lemmas.Grind.{flat_map-append}
 use Rattle.std.proofs.lemmas.List.Elements.{All-append, Contains-get_or}
@@ -11,11 +11,12 @@ use Rattle.spur_graph.specs.declared.answer.Value.{Value}
 use Rattle.spur_graph.specs.declared.answer.Value.TheVariants.{Ref}
 use Rattle.spur_graph.specs.Node.{Node}
 use Rattle.spur_graph.specs.Graph.{Graph, HasNode, waiting}
-use Rattle.spur_graph.specs.Room.{Room, is_old, spot_at}
+use Rattle.spur_graph.specs.Room.{Room, Spot, is_old, spot_at}
 use Rattle.spur_graph.specs.State.{State, with_graph}
 use Rattle.spur_graph.specs.Live.{Live, IsRoot, Mourns, HandleNames, SpecialNames, EntryNames, IsNil, IsFalse, IsTrue}
 use Rattle.spur_graph.specs.Rounds.{Decides, Fires, mourning, fire, IsGroup, Rounds, Ended, Again, without_dead, swept, Collect}
 use Rattle.spur_graph.specs.Collections.{RoomCollected}
+use Rattle.spur_graph.specs.Scavenges.{RoomScavenged}
 use Rattle.spur_graph.proofs.MappedValues.{get-map_nodes}
 use Rattle.graph_laws.proofs.Named.{IsNamed, has_name, ref_is}
 use Rattle.graph_laws.proofs.Redirected.{came_from}
@@ -101,14 +102,23 @@ pub record TellsOf (g : Graph) (room : Room) : Type 0 where
   pub spots : (a : ℕ) → get g.nodes a ≡ None → get room.spots a ≡ None
   pub old_names : (a : ℕ) → get g.nodes a ≡ None → contains room.old_names a ≡ false
 
-pub room-tells : (old : Room) (g : Graph) (new : Room) → RoomCollected old g new → TellsOf g new
-room-tells old g new c = record {
-  spots = spots;
-  old_names = λ a none. c.old_names a ∙ ap (λ o. is_some o && is_old (spot_at new a).space) (spots a none);
+-- a room does so where names that have a node have the spots, and names that have a spot are among the old names if they pass a test
+tells_by : (g : Graph) (room : Room) (spot : ℕ → Option Spot) (test : ℕ → Bool) → ((a : ℕ) → get room.spots a ≡ (if is_some (get g.nodes a) then spot a else None))
+    → ((a : ℕ) → contains room.old_names a ≡ (is_some (get room.spots a) && test a)) → TellsOf g room
+tells_by g room spot test spots old_names = record {
+  spots = no_spot;
+  old_names = λ a none. old_names a ∙ ap (λ o. is_some o && test a) (no_spot a none);
 }
   where
-    spots : (a : ℕ) → get g.nodes a ≡ None → get new.spots a ≡ None
-    spots a none = c.spots a ∙ ap (λ o. if is_some o then get old.spots a else None) none
+    no_spot : (a : ℕ) → get g.nodes a ≡ None → get room.spots a ≡ None
+    no_spot a none = spots a ∙ ap (λ o. if is_some o then spot a else None) none
+
+pub room-tells : (old : Room) (g : Graph) (new : Room) → RoomCollected old g new → TellsOf g new
+room-tells old g new c = tells_by g new (get old.spots) (λ a. is_old (spot_at new a).space) c.spots c.old_names
+
+pub scavenged-tells : (old : Room) (g : Graph) (new : Room) → RoomScavenged old g new → TellsOf g new
+scavenged-tells old g new c =
+    tells_by g new (λ a. option_map (λ (spot : Spot). record spot { space = (spot_at new a).space }) (get old.spots a)) (λ a. contains old.old_names a || is_old (spot_at new a).space) c.spots c.old_names
 
 module _ {s : State} (k : IsNamed s) (f live : ℕ → Bool) (exact : Decides live (Live s.graph f)) (ended : (a : ℕ) → Fires s.graph f a → ⊥) where
   -- a root that has a node has one still

@@ -1,5 +1,5 @@
 -- The room behind a full collection is the same under other names.
-use Rattle.std.proofs.Common.{◌≡◌, ◌≤◌, ℕ, ◌+◌, ◌-◌, cond, ◌&&◌, if◌then◌else◌, refl, sym, ap, ◌∙◌, subst, Some, None, Option}
+use Rattle.std.proofs.Common.{◌≡◌, ◌≤◌, ℕ, ◌+◌, ◌-◌, Bool, cond, ◌&&◌, if◌then◌else◌, refl, sym, ap, ◌∙◌, subst, Some, None, Option}
 use Rattle.std.proofs.lemmas.Iterator.Adapters.{option_map_id}
 use Rattle.std.specs.Option.{option_map, is_some, unwrap_or}
 use Rattle.std.specs.Ordering.{nat_cmp}
@@ -16,15 +16,18 @@ use Rattle.spur_graph.specs.Collections.{same_space, words_standing, pinned_in_o
 use Rattle.graph_laws.proofs.Values.{node-renamed}
 use Rattle.graph_laws.proofs.Counts.{weight-renamed}
 
--- the names that stand in old space
-abbrev old_names_of : FinMap nat_cmp Spot → FinSet nat_cmp
-old_names_of spots = sets.retain (sets.from_list (keys spots)) (λ a. is_old (unwrap_or (get spots a) no_spot).space)
+-- the names that have a spot and pass a test
+abbrev pub names_that : (ℕ → Bool) → FinMap nat_cmp Spot → FinSet nat_cmp
+names_that test spots = sets.retain (sets.from_list (keys spots)) test
 
-old_names_are : (spots : FinMap nat_cmp Spot) (a : ℕ) → contains (old_names_of spots) a ≡ (is_some (get spots a) && is_old (unwrap_or (get spots a) no_spot).space)
-old_names_are spots a =
-    contains-retain (sets.from_list (keys spots)) (λ b. is_old (unwrap_or (get spots b) no_spot).space) a
-    (λ b tied. ap (λ c. is_old (unwrap_or (get spots c) no_spot).space) (sym (nat_cmp-IsAntisymmetric a b tied)))
-    ∙ ap (λ b. b && is_old (unwrap_or (get spots a) no_spot).space) (contains-from_list nat_cmp_total (keys spots) a ∙ sym (contains_key-keys spots a))
+pub names_that_are : (test : ℕ → Bool) (spots : FinMap nat_cmp Spot) (a : ℕ) → contains (names_that test spots) a ≡ (is_some (get spots a) && test a)
+names_that_are test spots a =
+    contains-retain (sets.from_list (keys spots)) test a (λ b tied. ap test (sym (nat_cmp-IsAntisymmetric a b tied)))
+    ∙ ap (λ b. b && test a) (contains-from_list nat_cmp_total (keys spots) a ∙ sym (contains_key-keys spots a))
+
+-- the name stands in old space
+abbrev pub stands_old : FinMap nat_cmp Spot → ℕ → Bool
+stands_old spots a = is_old (unwrap_or (get spots a) no_spot).space
 
 -- the spots of the names that have nodes
 abbrev spots_of : Graph → FinMap nat_cmp Spot → FinMap nat_cmp Spot
@@ -33,7 +36,7 @@ spots_of g spots = retain_keys spots (contains_key g.nodes)
 spots_are : (g : Graph) (spots : FinMap nat_cmp Spot) (a : ℕ) → get (spots_of g spots) a ≡ (if is_some (get g.nodes a) then get spots a else None)
 spots_are g spots a = get-retain_keys spots (contains_key g.nodes) a (λ b tied. ap (contains_key g.nodes) (sym (nat_cmp-IsAntisymmetric a b tied)))
 
-is_some-mapped : {X Y : Type 0} (f : X → Y) (o : Option X) → is_some (option_map f o) ≡ is_some o
+pub is_some-mapped : {X Y : Type 0} (f : X → Y) (o : Option X) → is_some (option_map f o) ≡ is_some o
 is_some-mapped f None = refl
 is_some-mapped f (Some x) = refl
 
@@ -41,7 +44,7 @@ module _ {G H : Graph} {p back : ℕ → ℕ} (iso : Iso G H p back) {R S : Room
   same_spots : (a : ℕ) → get S.spots (p a) ≡ option_map (λ spot. spot) (get R.spots a)
   same_spots a = k.spots a ∙ sym (option_map_id (get R.spots a))
 
-  words_standing-renamed : (space : Space) → words_standing space S ≡ words_standing space R
+  pub words_standing-renamed : (space : Space) → words_standing space S ≡ words_standing space R
   words_standing-renamed space = weight-renamed (λ spot. spot) p back iso.left iso.right R.spots S.spots same_spots
       (λ e. if same_space e.1.space space then e.1.words else 0) (λ e. if same_space e.1.space space then e.1.words else 0) (λ a spot there. refl)
 
@@ -59,7 +62,7 @@ room_collected-renamed {G} {H} {p} iso {R} {S} k new c = (
   end,
   record {
     spots = spots_are H S.spots;
-    old_names = old_names_are spots;
+    old_names = names_that_are (stands_old spots) spots;
     free = λ occupied e.
         let gaps = c.free occupied (e ∙ (λ i. (k.rest i).internal_words + words_standing-renamed iso same Old i)) in (
           subst (λ words. occupied ≤ words) (λ i. (sym k.rest i).old_words) gaps.0,
@@ -77,7 +80,7 @@ room_collected-renamed {G} {H} {p} iso {R} {S} k new c = (
     spots = spots_of H S.spots
 
     end : Room
-    end = record S { spots = spots; old_names = old_names_of spots; free = new.free; eden_left = new.eden_left; past_used = new.past_used }
+    end = record S { spots = spots; old_names = names_that (stands_old spots) spots; free = new.free; eden_left = new.eden_left; past_used = new.past_used }
 
     spots_there : (a : ℕ) → get spots (p a) ≡ get new.spots a
     spots_there a =
@@ -89,10 +92,10 @@ room_collected-renamed {G} {H} {p} iso {R} {S} k new c = (
     same = record {
       spots = spots_there;
       old_names = λ a.
-          old_names_are spots (p a)
+          names_that_are (stands_old spots) spots (p a)
           ∙ (λ i. is_some (spots_there a i) && is_old (unwrap_or (spots_there a i) no_spot).space)
           ∙ sym (c.old_names a);
       rest =
-          ap (λ (room : Room). record room { spots = spots; old_names = old_names_of spots; free = new.free; eden_left = new.eden_left; past_used = new.past_used }) k.rest
-          ∙ sym (ap (λ (room : Room). record room { spots = spots; old_names = old_names_of spots }) c.rest);
+          ap (λ (room : Room). record room { spots = spots; old_names = names_that (stands_old spots) spots; free = new.free; eden_left = new.eden_left; past_used = new.past_used }) k.rest
+          ∙ sym (ap (λ (room : Room). record room { spots = spots; old_names = names_that (stands_old spots) spots }) c.rest);
     }

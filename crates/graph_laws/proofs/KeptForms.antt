@@ -1,24 +1,27 @@
--- A full collection and a mourning lead from a state that speaks only of names that have nodes, in a closed graph, to such a state.
+-- A full collection, a scavenge and a mourning lead from a state that speaks only of names that have nodes, in a closed graph, to such a state.
 use Rattle.std.proofs.Common.{◌≡◌, ◌≢◌, ℕ, Bool, true, false, not, nat_eq, if◌then◌else◌, List, [], ◌∷◌, length, refl, sym, ap, ◌∙◌, subst, inl, inr, arith, Some}
 use Rattle.std.proofs.lemmas.Bool.{false≢true, cases_eq, ne_eqb, eq-eqb}
 use Rattle.std.proofs.lemmas.Option.{same_Some}
 use Rattle.std.proofs.lemmas.List.Elements.{All-cons, All-tail, All-filter, All-contains, All-contains_itself}
 use Rattle.std.proofs.lemmas.List.Kept.{AllPairs-filter}
-use Rattle.std.specs.Ordering.{eq_by_cmp}
+use Rattle.std.specs.Ordering.{eq_by_cmp, nat_cmp}
 use Rattle.std.specs.List.{All, Contains, filter, flat_map}
-use Rattle.std.specs.FinMap.{get, get-insert}
+use Rattle.std.specs.FinMap.{get, get-insert, get-empty}
+use Rattle.std.specs.FinSet.{contains, contains-empty}
 use Rattle.spur_graph.specs.declared.answer.Value.TheVariants.{Ref}
 use Rattle.spur_graph.specs.Value.{IsValue}
 use Rattle.spur_graph.specs.Bytes.{Text}
-use Rattle.spur_graph.specs.Graph.{Graph, handle_cmp, AreApart, bind}
+use Rattle.spur_graph.specs.Graph.{Graph, handle_cmp, AreApart, IsClosed, bind}
 use Rattle.spur_graph.specs.Handles.{handles_total}
 use Rattle.spur_graph.specs.Live.{none}
+use Rattle.spur_graph.specs.Room.{Room, no_room}
+use Rattle.spur_graph.specs.Rounds.{Collect}
 use Rattle.spur_graph.specs.Collections.{without_first}
 use Rattle.spur_graph.specs.State.{State}
 use Rattle.graph_laws.specs.FixedNames.{HasAllNames}
-use Rattle.graph_laws.specs.Collected.{CollectsKeepNames, MournsKeepNames}
+use Rattle.graph_laws.specs.Collected.{CollectsKeepNames, ScavengesKeepNames, MournsKeepNames}
 use Rattle.graph_laws.proofs.Named.{IsNamed, all_named, some_chosen}
-use Rattle.graph_laws.proofs.CollectedNames.{collect-named, room-tells}
+use Rattle.graph_laws.proofs.CollectedNames.{TellsOf, collect-named, room-tells, scavenged-tells}
 use Rattle.graph_laws.proofs.Mourning.{without_first-all, mourns-named}
 use Rattle.graph_laws.proofs.Apart.{apart-append, apart-parts}
 use Rattle.graph_laws.proofs.Forms.{HasForms, HasFired, forms_of, closed_by}
@@ -28,10 +31,32 @@ use Rattle.graph_laws.proofs.CollectedForms.{collect-forms}
 all_names : {s : State} → IsNamed s → HasForms s.graph → HasAllNames s
 all_names k f = record { closed = closed_by k f; spots = k.spots; old_names = k.old_names }
 
+-- a collection does so with a room that tells of no name but those that have a node then
+pub collect-keeps : (old : State) → HasAllNames old → (f : ℕ → Bool) (nilled fired : ℕ) (new : Graph) → Collect old.graph f nilled fired new → (room : Room) → TellsOf new room
+    → HasAllNames (record old { graph = new; room = room })
+collect-keeps old all f nilled fired new c room tells =
+    all_names (collect-named (all_named old all) f nilled fired new c room tells) (collect-forms (forms_of all.closed) f nilled fired new c)
+
+-- a room that tells of no name
+tells_nothing : (g : Graph) → TellsOf g no_room
+tells_nothing g = record { spots = λ a e. get-empty nat_cmp a; old_names = λ a e. contains-empty nat_cmp a }
+
+-- and so it leaves a closed graph, whatever further roots it has
+pub collect-closed : (g : Graph) → IsClosed g → (f : ℕ → Bool) (nilled fired : ℕ) (new : Graph) → Collect g f nilled fired new → IsClosed new
+collect-closed g closed f nilled fired new c = (collect-keeps alone (record { closed = closed; spots = (tells_nothing g).spots; old_names = (tells_nothing g).old_names }) f nilled fired new c no_room (tells_nothing new)).closed
+  where
+    -- a state of which nothing is asked but its graph
+    alone : State
+    alone = record { graph = g; room = no_room; files = λ name. []; script = [] }
+
 pub collects_keep : CollectsKeepNames
 collects_keep old new answer all c =
-    let named = collect-named (all_named old all) none c.nilled c.fired new.graph c.collect new.room (room-tells old.room new.graph new.room c.room) in
-    subst HasAllNames (sym c.rest) (all_names named (collect-forms (forms_of all.closed) none c.nilled c.fired new.graph c.collect))
+    subst HasAllNames (sym c.rest) (collect-keeps old all none c.nilled c.fired new.graph c.collect new.room (room-tells old.room new.graph new.room c.room))
+
+pub scavenges_keep : ScavengesKeepNames
+scavenges_keep old new answer all c =
+    subst HasAllNames (sym c.rest)
+    (collect-keeps old all (contains old.room.old_names) c.nilled c.fired new.graph c.collect new.room (scavenged-tells old.room new.graph new.room c.room))
 
 -- ---- mournings
 

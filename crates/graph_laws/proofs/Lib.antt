@@ -24,6 +24,8 @@ pub mod CollectedRooms
 pub mod Surviving
 pub mod CollectedNames
 pub mod Collecting
+pub mod ScavengedRooms
+pub mod Scavenging
 pub mod Mourning
 pub mod Saving
 pub mod Outcomes

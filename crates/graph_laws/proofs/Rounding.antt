@@ -9,7 +9,7 @@ use Rattle.spur_graph.specs.Node.{Node}
 use Rattle.spur_graph.specs.Graph.{Graph, AreApart}
 use Rattle.spur_graph.specs.Names.{Iso, rename_node}
 use Rattle.spur_graph.specs.Live.{none}
-use Rattle.spur_graph.specs.Rounds.{Fires, mourning, fire, IsGroup, Rounds, Ended, Again}
+use Rattle.spur_graph.specs.Rounds.{IsListOf, Fires, mourning, fire, IsGroup, Rounds, Ended, Again}
 use Rattle.spur_graph.proofs.MappedValues.{get-map_nodes}
 use Rattle.graph_laws.proofs.Values.{one_to_one, same_name}
 use Rattle.graph_laws.proofs.Turning.{map-again, turned}
@@ -20,14 +20,23 @@ some-mapped p [] some = λ e. some refl
 some-mapped p (a ∷ names) some = λ e. omega (arith, ap length e)
 
 module _ {G H : Graph} {p back : ℕ → ℕ} (k : Iso G H p back) where
-  -- ---- a group fires
-
   apart-mapped : (names : List ℕ) → AreApart names → AreApart (map p names)
   apart-mapped names apart i j d before within = λ same.
       apart i j (back d) before (subst (λ n. j < n) (length-map names p) within) (one_to_one p back k.left _ _ (sym (at i) ∙ same ∙ at j))
     where
       at : (n : ℕ) → get_or (map p names) n d ≡ p (get_or names n (back d))
       at n = ap (get_or (map p names) n) (sym (k.right d)) ∙ get_or-map p names n (back d)
+
+  -- a list of the names of a set is one of the names for them
+  pub list_of-renamed : (P Q : ℕ → Type 0) → ((a : ℕ) → P a → Q (p a)) → ((b : ℕ) → Q b → P (back b)) → (names : List ℕ) → IsListOf P names → IsListOf Q (map p names)
+  list_of-renamed P Q there here names is = record {
+    apart = apart-mapped names is.apart;
+    all = λ b q. subst (Contains (map p names)) (k.right b) (among-mapped p names (back b) (is.all (back b) (here b q)));
+    only = λ b among. subst Q (k.right b)
+        (there (back b) (is.only (back b) (subst (λ xs. Contains xs (back b)) (map-again p back k.left names) (among-mapped back (map p names) b among))));
+  }
+
+  -- ---- a group fires
 
   in_group-renamed : (group : List ℕ) (a : ℕ) → list_any (λ b. b == p a) (map p group) ≡ list_any (λ b. b == a) group
   in_group-renamed [] a = refl
@@ -87,12 +96,7 @@ module _ {G H : Graph} {p back : ℕ → ℕ} (k : Iso G H p back) (f F : ℕ �
   pub group-renamed : (group : List ℕ) → IsGroup G f group → IsGroup H F (map p group)
   group-renamed group is = record {
     some = some-mapped p group is.some;
-    names = record {
-      apart = apart-mapped k group is.names.apart;
-      all = λ b fires. subst (Contains (map p group)) (k.right b) (among-mapped p group (back b) (is.names.all (back b) (fires-there b fires)));
-      only = λ b among. subst (Fires H F) (k.right b)
-          (fires-renamed k f F further (back b) (is.names.only (back b) (subst (λ names. Contains names (back b)) (map-again p back k.left group) (among-mapped back (map p group) b among))));
-    };
+    names = list_of-renamed k (Fires G f) (Fires H F) (fires-renamed k f F further) fires-there group is.names;
   }
 
 -- rounds from a graph are rounds from each that differs from it in names alone

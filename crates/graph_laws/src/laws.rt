@@ -1,6 +1,6 @@
 // The laws, for the layers above. They hold of the definitions, so that these functions do nothing.
 ghost use Rattle.graph_laws.specs.FixedNames.{AnswersAlike, RunsUnderFixedNames};
-ghost use Rattle.graph_laws.specs.Collected.{CollectsKeepNames, MournsKeepNames};
+ghost use Rattle.graph_laws.specs.Collected.{CollectsKeepNames, ScavengesKeepNames, MournsKeepNames};
 
 /// States that differ in names alone give the same answer to a line, and differ in names alone afterwards, where the first of them speaks only of names that
 /// have nodes.
@@ -13,8 +13,9 @@ pub fn runs_under_fixed_names()
     ensures { RunsUnderFixedNames }
 {}
 
-/// A full collection and a mourning leave a closed graph, and a room that tells of no name but those that have a node, where there was one.
+/// A full collection, a scavenge and a mourning leave a closed graph, and a room that tells of no name but those that have a node, where there was one.
 pub fn collections_keep_names()
     ensures collects { CollectsKeepNames }
+    ensures scavenges { ScavengesKeepNames }
     ensures mourns { MournsKeepNames }
 {}

@@ -12,10 +12,12 @@ use Rattle.spur_graph.specs.Ordinary.{page_places, passes, tells, is_internal, i
 use Rattle.spur_graph.specs.FileStores.{file_store}
 use Rattle.heap_cells.specs.Rows.{ReadsStart}
 use Rattle.heap_cells.proofs.Cutting.{all-in_order}
-use Rattle.heap_cells.proofs.CellKinds.{moved_starts, start_is_there_or_moved, no_start_is_not_there}
+use Rattle.heap_cells.proofs.CellKinds.{moved_starts, moved_is_told, start_is_there_or_moved, no_start_is_not_there}
 use Rattle.heap_cells.proofs.Starts.{start-read, starts-rise}
-use Rattle.image_references.specs.References as references
-use Rattle.image_references.proofs.Leading.{ordinary_lead, forwarder}
+use Rattle.image_words.specs.declared.image.ImageWords.{ImageWords}
+use Rattle.image_words.specs.Roots.{AreRoots}
+use Rattle.image_words.specs.References.{IsImage, Leads}
+use Rattle.image_words.proofs.Leading.{ordinary_lead}
 use Rattle.image_checks.specs.Checks.{IsCut, HasFive, HasOrdinary}
 use Rattle.image_checks.specs.Checked.{IsChecked}
 
@@ -24,22 +26,19 @@ module _ {segs : List Segment} {words : List ℕ} {map : StartMap} (k : IsChecke
   reads s e = start-read (word_in segs 0) words (length words) (chunks words) s (all-in_order words k.cut.cut) e
 
   -- checked words tell where their references lead
-  pub checked_leads : references.Leads (file_store segs words) segs map words
+  pub checked_leads : Leads (file_store segs words) words
   checked_leads = record {
-    to = λ w. refl;
     names = refl;
-    inside = λ s e. (reads s e).below;
-    starts = k.starts;
-    covers = k.covers;
     moved = λ s e. (reads s e).moved;
     target = λ s m. (reads s (moved_starts ((file_store segs words).cell s) m)).target m;
-    resolved = k.resolved;
   }
 
   -- a forwarder is told by the map and the header, and is no object
   pub forwarder_told : (s : ℕ) (told : Bool) → told ≡ has_start map s && nat_eq (class_of (get_or words s 0)) 8 → has_start map s ≡ true → is_there ((file_store segs words).cell s) ≡ not told
   forwarder_told s told e on =
-      start_is_there_or_moved ((file_store segs words).cell s) (sym (k.starts s) ∙ on) ∙ ap not (forwarder (file_store segs words) segs map words checked_leads s told e)
+      let start = sym (k.starts s) ∙ on in
+      let moved = moved_is_told ((file_store segs words).cell s) (has_start map s) (nat_eq (class_of (get_or words s 0)) 8) (k.starts s) (λ e. (reads s e).moved) in
+      start_is_there_or_moved ((file_store segs words).cell s) start ∙ ap not (moved ∙ sym e)
 
   -- where the map has no start no object stands
   pub none_there : (s : ℕ) → has_start map s ≡ false → is_there ((file_store segs words).cell s) ≡ false
@@ -50,9 +49,18 @@ module _ {segs : List Segment} {words : List ℕ} {map : StartMap} (k : IsChecke
       → ((s : ℕ) → at ≤ s → s < to → has_start map s ≡ false) → (s : ℕ) → s < to → has s ≡ is_there ((file_store segs words).cell s)
   marked_before has at to marked empty none s l = elim (cases_lt s at) [ inl low ↦ marked s low | inr high ↦ empty s high ∙ sym (none_there s (none s high l)) ]
 
--- a map of the ordinary objects
-pub checked_ordinary : (segs : List Segment) (words : List ℕ) (map : StartMap) → covered map ≡ length words → HasOrdinary (file_store segs words) (has_start map) → references.HasOrdinary (file_store segs words) map
-checked_ordinary segs words map covers has = record { has = has; covers = covers }
+-- the maps and the roots of checked words
+pub checked_image : {words : List ℕ} (image : ImageWords) → IsChecked image.map.now words image.starts.now → covered image.ordinary.now ≡ length words → HasOrdinary (file_store image.map.now words) (has_start image.ordinary.now)
+    → AreRoots (file_store image.map.now words) image.roots → IsImage (file_store image.map.now words) image
+checked_image image k covers has roots = record {
+  to = λ w. refl;
+  inside = λ s e. (reads k s e).below;
+  has = k.starts;
+  has_ordinary = has;
+  covers = (k.covers, covers);
+  firsts = roots;
+  resolved = k.resolved;
+}
 
 -- nil is ordinary
 pub nil_ordinary : {segs : List Segment} {words : List ℕ} → IsCut segs words → HasFive (file_store segs words) → is_ordinary (file_store segs words) (first (file_store segs words) 0) ≡ true

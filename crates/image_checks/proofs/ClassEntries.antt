@@ -6,7 +6,7 @@ use Rattle.spur_graph.specs.Segments.{Segment}
 use Rattle.spur_graph.specs.Cells.{Store, is_there, first, lead, any_below}
 use Rattle.spur_graph.specs.Ordinary.{page_places, page_entries, class_limit, is_at, passes, body_at, root_slot, tells, is_nil_slot, is_first, is_page_body, is_ordinary, has_page, page_of, entry, has_entry, is_no_index, is_entered, is_bad_entry}
 use Rattle.heap_cells.proofs.Entries.{entered_ordinary}
-use Rattle.image_references.proofs.Leading.{ordinary_lead}
+use Rattle.image_words.proofs.Leading.{ordinary_lead}
 use Rattle.image_checks.specs.Checks.{IsCut, HasFive}
 use Rattle.spur_graph.specs.FileStores.{file_store}
 use Rattle.image_checks.specs.Checked.{HasPages, HasPage, is_good_entry}

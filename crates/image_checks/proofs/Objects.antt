@@ -12,6 +12,7 @@ use Rattle.heap_cells.proofs.Bodies.{pointers_fit}
 use Rattle.heap_cells.proofs.Cutting.{all-in_order}
 use Rattle.heap_cells.proofs.ObjectReads.{object-stands, object-body, object-slots, object-word}
 use Rattle.heap_cells.proofs.References.{ordinary_there}
+use Rattle.image_words.specs.declared.image.Roots.{Roots}
 use Rattle.image_checks.specs.Checks.{IsCut}
 use Rattle.spur_graph.specs.FileStores.{file_store}
 use Rattle.image_checks.specs.Checked.{AreFirst, AreLeft, AreWithin, is_taken, object_at}
@@ -47,20 +48,19 @@ module _ {segs : List Segment} {words : List ℕ} (k : IsCut segs words) where
 
   -- ---- the hidden roots
 
-  module _ {firsts : List ℕ} (f : AreFirst (file_store segs words) firsts) where
+  module _ {starts : Roots} (f : AreFirst (file_store segs words) starts) where
     roots_there : is_there ((file_store segs words).cell (first (file_store segs words) 4)) ≡ true
     roots_there = f.roots.objects 4 (omega arith)
 
-    pub roots_end : get_or firsts 4 0 + 1 + roots_slots ≤ length words
+    pub roots_end : starts.hidden_roots + 1 + roots_slots ≤ length words
     roots_end =
         let end = end_there (first (file_store segs words) 4) roots_there in
-        let is = f.is 4 (omega arith) in
-        omega (arith, end, is, f.roots.roots.1)
+        omega (arith, end, f.are.hidden_roots, f.roots.roots.1)
 
-    pub root_word : (i : ℕ) → i < roots_slots → root_slot (file_store segs words) i ≡ get_or words (get_or firsts 4 0 + 1 + i) 0
+    pub root_word : (i : ℕ) → i < roots_slots → root_slot (file_store segs words) i ≡ get_or words (starts.hidden_roots + 1 + i) 0
     root_word i l =
         words_there (first (file_store segs words) 4) i roots_there (omega (arith, l, f.roots.roots.1))
-        ∙ ap (λ s. get_or words (s + 1 + i) 0) (sym (f.is 4 (omega arith)))
+        ∙ ap (λ s. get_or words (s + 1 + i) 0) (sym f.are.hidden_roots)
 
   -- no object stands behind the words
   pub none_behind : (s : ℕ) → length words ≤ s → is_there ((file_store segs words).cell s) ≡ false

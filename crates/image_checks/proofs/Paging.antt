@@ -1,26 +1,12 @@
 -- Which slots of the hidden roots name pages, while those that are named are taken out of a map of objects.
-use Rattle.std.proofs.Common.{◌≡◌, ◌≢◌, ℕ, suc, zero, Bool, true, false, not, ◌&&◌, ◌||◌, ◌+◌, ◌<◌, eqb, List, [], ◌∷◌, length, get_or, refl, sym, ap, ◌∙◌, arith, inl, inr, Some, None, Option}
+use Rattle.std.proofs.Common.{◌≡◌, ◌≢◌, ℕ, suc, Bool, true, false, not, ◌&&◌, ◌||◌, ◌+◌, eqb, refl, sym, ap, ◌∙◌, arith, inl, inr, Some, None, Option}
 use mathlib.Core.Bool.{and-false, and-true}
-use Rattle.std.proofs.lemmas.Bool.{false≢true, cases_Bool, cases_eq, eq-eqb, ne_eqb, or_parts, or_cases}
-use Rattle.std.specs.List.{list_any}
+use Rattle.std.proofs.lemmas.Bool.{cases_Bool, cases_eq, eq-eqb, ne_eqb}
 use Rattle.spur_graph.specs.Cells.{Store, is_there, first, any_below}
 use Rattle.spur_graph.specs.Ordinary.{page_places, is_at, passes, body_at, root_slot, tells, is_first, is_page_body, is_page, is_internal, is_ordinary, is_bad_page}
-use Rattle.heap_cells.proofs.Below.{any_below-none, any_below-has}
-use Rattle.image_checks.specs.Checked.{AreFirst, AreLeft, is_taken}
-
--- ---- a list's elements
-
-any_found : (p : ℕ → Bool) (xs : List ℕ) → list_any p xs ≡ true → (k : ℕ) × (k < length xs) × (p (get_or xs k 0) ≡ true)
-any_found p [] e = absurd (false≢true e)
-any_found p (x ∷ xs) e = elim (or_cases (p x) (list_any p xs) e) [
-  | inl here ↦ (0, omega arith, here)
-  | inr there ↦ let r = any_found p xs there in (suc r.0, omega (arith, r.1), r.2)
-]
-
-none_found : (p : ℕ → Bool) (xs : List ℕ) → list_any p xs ≡ false → (k : ℕ) → k < length xs → p (get_or xs k 0) ≡ false
-none_found p [] e k l = absurd (omega arith)
-none_found p (x ∷ xs) e zero l = (or_parts (p x) (list_any p xs) e).0
-none_found p (x ∷ xs) e (suc k) l = none_found p xs (or_parts (p x) (list_any p xs) e).1 k (omega arith)
+use Rattle.image_words.specs.declared.image.Roots.{Roots}
+use Rattle.image_words.specs.Roots.{has_root, AreRoots}
+use Rattle.image_checks.specs.Checked.{AreLeft, is_taken}
 
 pub no_start : (o : Option ℕ) → ((s : ℕ) → o ≡ Some s → ⊥) → o ≡ None
 no_start None none = refl
@@ -47,16 +33,21 @@ same_tests has there body array first listed told inside e b i l = elim (cases_B
     none true l a = refl
     none false l a = refl
 
+one_of_five : (a b c d e : Bool) → a || b || c || d || e ≡ a || (b || (c || (d || (e || false))))
+one_of_five true b c d e = refl
+one_of_five false true c d e = refl
+one_of_five false false true d e = refl
+one_of_five false false false true e = refl
+one_of_five false false false false true = refl
+one_of_five false false false false false = refl
+
 module _ (h : Store) where
-  -- the test of the first five starts is that of their list
-  pub firsts_same : (firsts : List ℕ) (s : ℕ) → AreFirst h firsts → list_any (λ t. eqb t s) firsts ≡ is_first h s
-  firsts_same firsts s f = elim (cases_Bool (list_any (λ t. eqb t s) firsts)) [
-    | inl on ↦
-        let r = any_found (λ t. eqb t s) firsts on in
-        let low : r.0 < 5 = omega (arith, r.1, f.count) in
-        on ∙ sym (any_below-has (λ k. eqb (first h k) s) 5 r.0 low (ap (λ t. eqb t s) (sym (f.is r.0 low)) ∙ r.2))
-    | inr off ↦ off ∙ sym (any_below-none (λ k. eqb (first h k) s) 5 (λ k l. ap (λ t. eqb t s) (sym (f.is k l)) ∙ none_found (λ t. eqb t s) firsts off k (omega (arith, l, f.count))))
-  ]
+  -- the test of the first five starts is that of the roots
+  pub roots_same : (roots : Roots) (s : ℕ) → AreRoots h roots → has_root roots s ≡ is_first h s
+  unfolding any_below
+  roots_same roots s a =
+      (λ x. eqb (a.hidden_roots x) s || eqb (a.free_lists x) s || eqb (a.true_object x) s || eqb (a.false_object x) s || eqb (a.nil x) s)
+      ∙ one_of_five (eqb (first h 4) s) (eqb (first h 3) s) (eqb (first h 2) s) (eqb (first h 1) s) (eqb (first h 0) s)
 
   -- ---- one slot
 

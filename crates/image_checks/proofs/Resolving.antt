@@ -243,7 +243,7 @@ both true false e = (refl, refl)
 both true true e = absurd (false≢true e)
 both false b e = absurd (false≢true e)
 
-module _ (segs : List Segment) (starts : StartMap) (first words : List ℕ) (k : AreKnown segs first starts) (p : AreShortened segs first words) where
+module _ {segs : List Segment} {starts : StartMap} {first words : List ℕ} (k : AreKnown segs first starts) (p : AreShortened segs first words) where
   pub done-more : (new : List ℕ) → AreShortened segs words new → (t : ℕ) → IsDone (file_store segs first) (file_store segs words) t → IsDone (file_store segs first) (file_store segs new) t
   done-more new q t done on =
       let d = done on in (

@@ -1,5 +1,5 @@
 -- What the words of an image's heap are tested for, and what the tests leave.
-use Rattle.std.specs.Prelude.{ℕ, ◌≡◌, ◌≢◌, ◌+◌, ◌<◌, ◌≤◌, List, length, take, Bool, true, if◌then◌else◌}
+use Rattle.std.specs.Prelude.{ℕ, ◌≡◌, ◌+◌, ◌<◌, ◌≤◌, List, length, take, Bool, true, if◌then◌else◌}
 use Rattle.spur_graph.specs.Segments.{Segment, total_words}
 use Rattle.object_header.specs.Chunks.{Cuts, chunks}
 use Rattle.spur_graph.specs.Cells.{Moved, Store, first, final, is_start, is_there, is_moved, is_formed}

@@ -13,7 +13,7 @@ ghost use Rattle.image_checks.specs.Chains.{AreKnown, Ends, ChangesForwarders, A
 
 use heap_segments::AddressMap;
 use heap_walk::StartMap;
-use image_references::is_forwarder;
+use image_words::is_forwarder;
 
 /// The address of the object in which the chain from the forwarder at `s` ends, if it ends in one.
 fn end_of(words: &[u64], map: &AddressMap, starts: &StartMap, s: usize) -> Option<u64>

@@ -13,24 +13,24 @@ ghost use Rattle.image_checks.specs.Checked.{IsChecked, AreFirst, AreLeft, AreWi
 
 use heap_segments::AddressMap;
 use heap_walk::{StartMap, slots_of};
-use image_references::is_forwarder;
+use image_words::{Roots, is_forwarder};
 use object_header::{ARRAY_FORMAT, Header};
-use spur_graph::{FREE_LISTS, HIDDEN_ROOTS, PAGE_ENTRIES, PAGE_PLACES};
+use spur_graph::{PAGE_ENTRIES, PAGE_PLACES};
 
 /// The word that slot `place` of the hidden roots names, if it names one.
 pub(crate) fn named_at(
     words: &[u64],
     map: &AddressMap,
-    firsts: &[usize],
+    roots: &Roots,
     place: usize,
 ) -> Option<usize>
     requires cut { IsCut map.now words.now }
-    requires first { AreFirst (file_store map.now words.now) firsts.now }
+    requires first { AreFirst (file_store map.now words.now) roots.now }
     requires within { place < page_places }
     ensures { result ≡ word_in map.now 0 (root_slot (file_store map.now words.now) place) }
 {
     let _end = words.len();
-    map.to_region(words[firsts[HIDDEN_ROOTS] + 1 + place])
+    map.to_region(words[roots.hidden_roots + 1 + place])
 }
 
 /// Whether it is an array of as many slots as a page has.
@@ -42,11 +42,11 @@ fn is_page_array(words: &[u64], start: usize) -> bool
 }
 
 /// Whether a page can start there: an array of its size that is none of the first five and that no slot named before.
-fn is_free_page(words: &[u64], firsts: &[usize], left: &StartMap, start: usize) -> bool
+fn is_free_page(words: &[u64], roots: &Roots, left: &StartMap, start: usize) -> bool
     requires { AreWithin words.now left.now }
-    ensures { result ≡ is_free_page words.now firsts.now left.now start }
+    ensures { result ≡ is_free_page words.now roots.now left.now start }
 {
-    start < left.len() && left.has(start) && !firsts.contains(&start) && is_page_array(words, start)
+    start < left.len() && left.has(start) && !roots.has(start) && is_page_array(words, start)
 }
 
 /// Takes the page that slot `place` of the hidden roots names out of the starts that no slot before it named. False where
@@ -54,12 +54,12 @@ fn is_free_page(words: &[u64], firsts: &[usize], left: &StartMap, start: usize) 
 fn take_page(
     words: &[u64],
     map: &AddressMap,
-    firsts: &[usize],
+    roots: &Roots,
     left: &mut StartMap,
     place: usize,
 ) -> bool
     requires cut { IsCut map.now words.now }
-    requires first { AreFirst (file_store map.now words.now) firsts.now }
+    requires first { AreFirst (file_store map.now words.now) roots.now }
     requires within { place < page_places }
     requires covers { covered left.old ≡ length words.now }
     requires left { AreLeft (file_store map.now words.now) place (has_start left.old) }
@@ -67,13 +67,13 @@ fn take_page(
     ensures taken { result ≡ true → AreLeft (file_store map.now words.now) (place + 1) (has_start left.new) }
     ensures covers { covered left.new ≡ covered left.old }
 {
-    let Some(start) = named_at(words, map, firsts, place) else {
+    let Some(start) = named_at(words, map, roots, place) else {
         return false;
     };
-    if start == firsts[0] {
+    if start == roots.nil {
         return true;
     }
-    if !is_free_page(words, firsts, left, start) {
+    if !is_free_page(words, roots, left, start) {
         return false;
     }
     left.unset(start);
@@ -87,11 +87,11 @@ fn take_page(
 pub fn take_pages(
     words: &[u64],
     map: &AddressMap,
-    firsts: &[usize],
+    roots: &Roots,
     ordinary: &mut StartMap,
 ) -> Result<(), usize>
     requires cut { IsCut map.now words.now }
-    requires first { AreFirst (file_store map.now words.now) firsts.now }
+    requires first { AreFirst (file_store map.now words.now) roots.now }
     requires covers { covered ordinary.old ≡ length words.now }
     requires objects { (s : ℕ) → has_start ordinary.old s ≡ is_there ((file_store map.now words.now).cell s) }
     ensures least { FindsLeast (IsBadPlace (file_store map.now words.now)) result }
@@ -100,12 +100,12 @@ pub fn take_pages(
 {
     let _end = words.len();
     'places: for place in 0..PAGE_PLACES {
-        if !take_page(words, map, firsts, ordinary, place) {
+        if !take_page(words, map, roots, ordinary, place) {
             return Err(place);
         }
     }
-    ordinary.unset(firsts[FREE_LISTS]);
-    ordinary.unset(firsts[HIDDEN_ROOTS]);
+    ordinary.unset(roots.free_lists);
+    ordinary.unset(roots.hidden_roots);
     Ok(())
 }
 

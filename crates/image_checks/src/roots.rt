@@ -1,14 +1,15 @@
 // The first five chunks of an image.
-ghost use Rattle.std.specs.Prelude.{◌≡◌, ◌<◌, ℕ, List, length, slice_index, IfOk, OnOk};
+ghost use Rattle.std.specs.Prelude.{◌≡◌, List, length, IfOk, OnOk};
 ghost use Rattle.spur_graph.specs.ImageCauses.{FindsLeast};
 ghost use Rattle.spur_graph.specs.Segments.{Segment};
-ghost use Rattle.spur_graph.specs.Cells.{first};
 ghost use Rattle.spur_graph.specs.Places.{IsBadRoot, is_bad_root};
 ghost use Rattle.heap_cells.specs.Rows.{AllRead};
+ghost use Rattle.image_words.specs.Roots.{AreRoots};
 ghost use Rattle.image_checks.specs.Checks.{HasFive};
 ghost use Rattle.spur_graph.specs.FileStores.{file_store};
 
 use crate::head::known_head;
+use image_words::Roots;
 use object_header::{ARRAY_FORMAT, FORWARDER_CLASS, FREE_CLASS, Head, Header};
 use spur_graph::{FREE_LISTS, HIDDEN_ROOTS, HIDDEN_ROOTS_SLOTS};
 
@@ -30,11 +31,11 @@ fn is_bad_root(k: usize, head: Head) -> bool
 
 /// The starts of the first five chunks: nil, false, true, the free lists object, which has no format of methods, and the hidden roots, an
 /// array of 4,104 slots. The error is the first word of the first of them that is bad, or the end where there are fewer.
-pub fn first_bad_root(words: &[u64]) -> Result<[usize; 5], usize>
+pub fn first_bad_root(words: &[u64]) -> Result<Roots, usize>
     requires { AllRead words.now 0 (length words.now) }
     ensures least { FindsLeast (IsBadRoot words.now 0 (length words.now)) result }
     ensures five { OnOk result ((segs : List Segment) → HasFive (file_store segs words.now)) }
-    ensures starts { IfOk result (λ starts. (segs : List Segment) (k : ℕ) → k < 5 → slice_index starts k ≡ first (file_store segs words.now) k) }
+    ensures starts { IfOk result (λ roots. (segs : List Segment) → AreRoots (file_store segs words.now) roots) }
 {
     let mut starts = [0; 5];
     let mut at = 0;
@@ -49,5 +50,11 @@ pub fn first_bad_root(words: &[u64]) -> Result<[usize; 5], usize>
         starts[k] = at + head.lead;
         at += head.words;
     }
-    Ok(starts)
+    Ok(Roots {
+        nil: starts[0],
+        false_object: starts[1],
+        true_object: starts[2],
+        free_lists: starts[FREE_LISTS],
+        hidden_roots: starts[HIDDEN_ROOTS],
+    })
 }

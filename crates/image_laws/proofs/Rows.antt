@@ -10,7 +10,7 @@ use Rattle.spur_graph.specs.Places.{IsBadRoot}
 use Rattle.spur_graph.specs.ImageCauses.{Class, Row, BadObject, BadRoot, BadForwarder, BadPage, BadEntry, BadSlot, BadSpecial, Bad, image_store}
 use Rattle.heap_cells.specs.Settled.{IsLoadable}
 use Rattle.image_checks.specs.Checks.{IsBadIn, IsLost, IsBadPlace, IsBadIndex}
-use Rattle.image_references.specs.References.{IsBadPointer}
+use Rattle.image_words.specs.References.{IsBadPointer}
 use Rattle.spur_graph.specs.FileStores.{file_store}
 use Rattle.image_laws.specs.Resolved.{HasSameCells, HasSameTests}
 use Rattle.image_laws.specs.Causes.{AreKeys, AreRows, AreTold, AreCauses, FileHasCauses, ResolvedHasCauses, NoneIsLost, NoneIsLoadable}

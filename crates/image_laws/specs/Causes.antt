@@ -9,7 +9,7 @@ use Rattle.spur_graph.specs.Places.{IsBadRoot}
 use Rattle.spur_graph.specs.ImageCauses.{Cause, Object, Roots, Forwarder, Class, Slot, Special, Row, NoHeader, BadObject, BadRoot, BadForwarder, BadPage, BadEntry, BadSlot, BadSpecial, number, Bad, told, entry_word, IsLeast, FirstCause, IsAccepted}
 use Rattle.heap_cells.specs.Settled.{IsLoadable}
 use Rattle.image_checks.specs.Checks.{IsBadIn, HasFive, IsResolved, IsLost, IsBadPlace, IsBadIndex}
-use Rattle.image_references.specs.References.{IsBadPointer}
+use Rattle.image_words.specs.References.{IsBadPointer}
 use Rattle.spur_graph.specs.FileStores.{file_store}
 
 -- no key of a row is bad

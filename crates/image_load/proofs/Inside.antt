@@ -5,20 +5,35 @@ use Rattle.spur_graph.specs.Segments.{Segment, word_in}
 use Rattle.object_header.specs.Chunks.{chunks}
 use Rattle.spur_graph.specs.Cells.{Store, final, is_moved, is_there, pointer_count}
 use Rattle.spur_graph.specs.Ordinary.{page_places, page_entries, class_limit, body_at, root_slot, is_nil_slot, is_ordinary, is_good_word, is_bad_page, is_bad_entry, has_page, page_of}
-use Rattle.image_checks.specs.Checks.{IsCut, IsLost, IsBadPlace}
-use Rattle.image_references.specs.References.{IsBadPointer}
+use Rattle.image_checks.specs.Checks.{IsCut, IsLost, IsBadPlace, HasOrdinary}
+use Rattle.image_words.specs.declared.image.Roots.{Roots}
+use Rattle.image_words.specs.References.{IsBadPointer}
 use Rattle.spur_graph.specs.FileStores.{file_store}
-use Rattle.image_checks.specs.Checked.{AreFirst, HasPages}
+use Rattle.image_checks.specs.Checked.{IsChecked, AreFirst, HasPages, IsPaged}
 use Rattle.heap_cells.proofs.Cutting.{all-in_order}
 use Rattle.heap_cells.proofs.CellKinds.{moved_starts}
 use Rattle.heap_cells.proofs.Starts.{start-read}
 use Rattle.std.specs.Option.{unwrap_or}
+use Rattle.heap_walk.specs.Starts.{has_start, covered}
+use Rattle.image_words.specs.declared.image.ImageWords.{ImageWords}
+use Rattle.image_checks.proofs.AtStarts.{checked_leads, checked_image}
 use Rattle.image_checks.proofs.Objects.{root_word, stands_ordinary, fit_ordinary}
 use Rattle.image_checks.proofs.Paging.{unnamed_bad}
 use Rattle.image_checks.proofs.ClassEntries.{page_here, page_end}
 
 pub no_bad_pages : (h : Store) → ((i : ℕ) → IsBadPlace h i → ⊥) → HasPages h
 no_bad_pages h none i low = elim (cases_Bool (is_bad_page h i)) [ inl on ↦ absurd (none i (low, on)) | inr off ↦ off ]
+
+-- checked words whose hidden roots name pages
+pub paged : (image : ImageWords) (words : List ℕ) → IsChecked image.map.now words image.starts.now → AreFirst (file_store image.map.now words) image.roots → covered image.ordinary.now ≡ length words
+    → HasOrdinary (file_store image.map.now words) (has_start image.ordinary.now) → ((i : ℕ) → IsBadPlace (file_store image.map.now words) i → ⊥) → IsPaged image words
+paged image words k first covers has none = record {
+  cut = k.cut;
+  maps = checked_image image k covers has first.are;
+  leads = checked_leads k;
+  five = first.roots;
+  pages = no_bad_pages (file_store image.map.now words) none;
+}
 
 -- the page that a place of the hidden roots names, in so many words
 pub record IsPageAt (h : Store) (words place : ℕ) : Type 0 where
@@ -59,10 +74,10 @@ module _ {segs : List Segment} {words : List ℕ} (k : IsCut segs words) where
       named_page place low (Some s) is other = record { start = s; named = is; end = page_end k place s (page_here k place s pages low (other, is)); low = low }
 
   -- the page of an index is found by the word of the hidden roots
-  pub entry_found : (firsts : List ℕ) (i : ℕ) → AreFirst (file_store segs words) firsts → HasPages (file_store segs words) → is_bad_entry (file_store segs words) i ≡ true
-      → (to : Option ℕ) (start : ℕ) → to ≡ word_in segs 0 (get_or words (get_or firsts 4 0 + 1 + i / page_entries) 0) → start ≡ unwrap_or to (length words)
+  pub entry_found : (roots : Roots) (i : ℕ) → AreFirst (file_store segs words) roots → HasPages (file_store segs words) → is_bad_entry (file_store segs words) i ≡ true
+      → (to : Option ℕ) (start : ℕ) → to ≡ word_in segs 0 (get_or words (roots.hidden_roots + 1 + i / page_entries) 0) → start ≡ unwrap_or to (length words)
       → (start ≡ page_of (file_store segs words) i) × (start + 1 + page_entries ≤ length words)
-  entry_found firsts i f pages bad to start e is =
+  entry_found roots i f pages bad to start e is =
       let page = page_of_bad i pages bad in
       let word = root_word k f (i / page_entries) (omega (arith, page.low)) in
       let same : to ≡ word_in segs 0 (root_slot (file_store segs words) (i / page_entries)) = e ∙ ap (word_in segs 0) (sym word) in

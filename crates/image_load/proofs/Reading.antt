@@ -33,6 +33,8 @@ pub still_empty : (bare : Bare) (words : List ℕ) → length words ≡ length b
 still_empty bare words long tables = record {
   no_mourners = tables.no_mourners;
   mourner_places = subst (λ n. HasPlaces n (vec_capacity bare.mourners)) (sym long) tables.mourner_places;
+  none_remembered = tables.none_remembered;
+  remembered_places = subst (λ n. HasPlaces n bare.remembered.capacity) (sym long) tables.remembered_places;
   no_marks = tables.no_marks;
   mark_places = subst (λ n. HasPlaces n (vec_capacity bare.marks)) (sym long) tables.mark_places;
   saved = tables.saved;

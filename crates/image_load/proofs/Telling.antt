@@ -10,7 +10,8 @@ use Rattle.spur_graph.specs.Places.{IsBadRoot}
 use Rattle.spur_graph.specs.ImageCauses.{Row, BadObject, BadRoot, BadForwarder, BadPage, BadEntry, BadSlot, BadSpecial, Object, Roots, Forwarder, Class, Slot, Special, number, told, entry_word, IsLeast, FirstCause, IsAccepted}
 use Rattle.heap_walk.specs.declared.starts.StartMap.{StartMap}
 use Rattle.image_checks.specs.Checks.{IsBadIn, IsLost, IsBadPlace, IsBadIndex}
-use Rattle.image_references.specs.References.{IsBadPointer}
+use Rattle.image_words.specs.declared.image.Roots.{Roots as FirstFive}
+use Rattle.image_words.specs.References.{IsBadPointer}
 use Rattle.spur_graph.specs.FileStores.{file_store}
 use Rattle.image_laws.specs.Causes.{AreKeys}
 use Rattle.image_laws.proofs.Causes.{next_row, none_is_accepted, least_is_first}
@@ -94,19 +95,19 @@ module _ {bytes : List ℕ} {limits : Limits} {segs : List Segment} {old : List 
   pub reaches_objects : Reaches bytes limits segs old (file_store segs old) BadObject
   reaches_objects = record { causes = file_has_causes bytes limits segs old t.segments_are t.words_are; before = t.before }
 
-  pub reaches_forwarders : {firsts : List ℕ} → AreGoodChunks segs old firsts → Reaches bytes limits segs old (file_store segs old) BadForwarder
+  pub reaches_forwarders : {firsts : FirstFive} → AreGoodChunks segs old firsts → Reaches bytes limits segs old (file_store segs old) BadForwarder
   reaches_forwarders c = past_roots segs old (file_store segs old) c.roots (past_objects segs old (file_store segs old) c.objects reaches_objects)
 
-  pub reaches_pages : {new firsts : List ℕ} {starts : StartMap} → AreGoodChunks segs old firsts → AreForwarded segs old new firsts starts → Reaches bytes limits segs old (file_store segs new) BadPage
+  pub reaches_pages : {new : List ℕ} {firsts : FirstFive} {starts : StartMap} → AreGoodChunks segs old firsts → AreForwarded segs old new firsts starts → Reaches bytes limits segs old (file_store segs new) BadPage
   reaches_pages {new} c f = record {
     causes = resolved_has_causes bytes limits segs old (file_store segs new) t.segments_are t.words_are f.resolved f.lost;
     before = (past_forwarders segs old (file_store segs old) f.lost (reaches_forwarders c)).before;
   }
 
-  pub reaches_slots : {new firsts : List ℕ} {starts ordinary : StartMap} → AreGoodChunks segs old firsts → AreForwarded segs old new firsts starts → HasClasses segs new ordinary
+  pub reaches_slots : {new : List ℕ} {firsts : FirstFive} {starts ordinary : StartMap} → AreGoodChunks segs old firsts → AreForwarded segs old new firsts starts → HasClasses segs new ordinary
       → Reaches bytes limits segs old (file_store segs new) BadSlot
   reaches_slots {new} c f k = past_entries segs old (file_store segs new) k.indices (past_pages segs old (file_store segs new) k.places (reaches_pages c f))
 
-  pub accepted : {new firsts : List ℕ} {starts ordinary : StartMap} → AreGoodChunks segs old firsts → AreForwarded segs old new firsts starts → HasClasses segs new ordinary → HasValues segs new special
+  pub accepted : {new : List ℕ} {firsts : FirstFive} {starts ordinary : StartMap} → AreGoodChunks segs old firsts → AreForwarded segs old new firsts starts → HasClasses segs new ordinary → HasValues segs new special
       → IsAccepted bytes limits
   accepted {new} c f k v = accepted_here segs old (file_store segs new) special t.special_is v.pointers v.special_there (reaches_slots c f k)

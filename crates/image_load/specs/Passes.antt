@@ -12,7 +12,8 @@ use Rattle.spur_graph.specs.Ordinary.{is_good_reference}
 use Rattle.spur_graph.specs.Places.{IsBadRoot}
 use Rattle.spur_graph.specs.ImageCauses.{Row, BadObject, BadSlot}
 use Rattle.image_checks.specs.Checks.{IsBadIn, IsCut, IsResolved, IsLost, IsBadPlace, IsBadIndex, HasOrdinary}
-use Rattle.image_references.specs.References.{IsBadPointer}
+use Rattle.image_words.specs.declared.image.Roots.{Roots}
+use Rattle.image_words.specs.References.{IsBadPointer}
 use Rattle.spur_graph.specs.FileStores.{file_store}
 use Rattle.image_checks.specs.Checked.{IsChecked, AreFirst}
 use Rattle.image_laws.specs.Causes.{AreCauses, NoneBefore}
@@ -44,19 +45,19 @@ IsNoFault other = Unit {0}
 -- ---- what the passes leave
 
 -- the chunks are read, and the first five can be those of a heap
-pub record AreGoodChunks (segs : List Segment) (words firsts : List ℕ) : Type 0 where
+pub record AreGoodChunks (segs : List Segment) (words : List ℕ) (starts : Roots) : Type 0 where
   pub cut : IsCut segs words
   pub read : AllRead words 0 (length words)
   pub objects : (n : ℕ) → IsBadIn segs words n → ⊥
   pub roots : (n : ℕ) → IsBadRoot words 0 (length words) n → ⊥
-  pub first : AreFirst (file_store segs words) firsts
+  pub first : AreFirst (file_store segs words) starts
 
 -- no forwarder is lost, and each names the object to which it leads
-pub record AreForwarded (segs : List Segment) (old new firsts : List ℕ) (starts : StartMap) : Type 0 where
+pub record AreForwarded (segs : List Segment) (old new : List ℕ) (five : Roots) (starts : StartMap) : Type 0 where
   pub resolved : IsResolved (file_store segs old) (file_store segs new)
   pub lost : (n : ℕ) → IsLost (file_store segs old) n → ⊥
   pub checked : IsChecked segs new starts
-  pub first : AreFirst (file_store segs new) firsts
+  pub first : AreFirst (file_store segs new) five
   pub row : chunks new ≡ chunks old
   pub long : length new ≡ length old
 
@@ -83,6 +84,6 @@ pub record AreTried (bytes : List ℕ) (limits : Limits) (segs : List Segment) (
 
 -- the words have passed all but the test of values, and these maps and starts are what was found in them
 pub record HavePassed (segs : List Segment) (old new : List ℕ) (f : Found) : Type 0 where
-  pub chunks_are : AreGoodChunks segs old f.firsts
-  pub forwarded : AreForwarded segs old new f.firsts f.starts
+  pub chunks_are : AreGoodChunks segs old f.roots
+  pub forwarded : AreForwarded segs old new f.roots f.starts
   pub classes : HasClasses segs new f.ordinary

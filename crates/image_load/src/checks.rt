@@ -15,7 +15,8 @@ use heap_walk::{StartMap, mark_starts};
 use image_checks::{
     first_bad_entry, first_bad_object, first_bad_root, mark_objects, resolve_forwarders, take_pages,
 };
-use spur_graph::{HIDDEN_ROOTS, PAGE_ENTRIES};
+use image_words::{ImageWords, Roots};
+use spur_graph::PAGE_ENTRIES;
 use std::alloc::Global;
 
 /// What was found in the words of an image to which no cause before that of values applies.
@@ -26,11 +27,11 @@ pub(crate) struct Found {
     /// The starts of ordinary objects.
     pub ordinary: StartMap,
     /// The starts of the first five chunks.
-    pub firsts: [usize; 5],
+    pub roots: Roots,
 }
 
 /// Reads the chunks, and answers where the first five start. The error is [`LoadError::Object`] or [`LoadError::Roots`].
-fn check_chunks(words: &[u64], map: &AddressMap) -> Result<[usize; 5], LoadError>
+fn check_chunks(words: &[u64], map: &AddressMap) -> Result<Roots, LoadError>
     requires all { AreOf map.now words.now }
     requires some { 0 < length map.now }
     ensures chunks { IfOk result (AreGoodChunks map.now words.now) }
@@ -42,7 +43,7 @@ fn check_chunks(words: &[u64], map: &AddressMap) -> Result<[usize; 5], LoadError
         Err(at) => return Err(LoadError::Object(map.offset(at))),
     }
     match first_bad_root(words) {
-        Ok(firsts) => Ok(firsts),
+        Ok(roots) => Ok(roots),
         Err(at) => Err(LoadError::Roots(map.offset(at))),
     }
 }
@@ -53,12 +54,12 @@ fn check_forwarders(
     alloc: Global,
     words: &mut [u64],
     map: &AddressMap,
-    firsts: &[usize],
+    roots: &Roots,
 ) -> Result<StartMap, LoadError>
     requires all { AreOf map.now words.old }
     requires some { 0 < length map.now }
-    requires chunks { AreGoodChunks map.now words.old firsts.now }
-    ensures forwarded { IfOk result (AreForwarded map.now words.old words.new firsts.now) }
+    requires chunks { AreGoodChunks map.now words.old roots.now }
+    ensures forwarded { IfOk result (AreForwarded map.now words.old words.new roots.now) }
     ensures told { IfErr result (TellsFrom map.now words.old (file_store map.now words.old) BadForwarder) }
     ensures fault { IfErr result IsNoFault }
     ensures long { length words.new ≡ length words.old }
@@ -74,15 +75,15 @@ fn check_forwarders(
 }
 
 /// The word at which a bad entry of the class table stands.
-fn entry_place(words: &[u64], map: &AddressMap, firsts: &[usize], index: usize) -> usize
+fn entry_place(words: &[u64], map: &AddressMap, roots: &Roots, index: usize) -> usize
     requires cut { IsCut map.now words.now }
-    requires first { AreFirst (file_store map.now words.now) firsts.now }
+    requires first { AreFirst (file_store map.now words.now) roots.now }
     requires pages { HasPages (file_store map.now words.now) }
     requires bad { is_bad_entry (file_store map.now words.now) index ≡ true }
     ensures place { result ≡ entry_word (file_store map.now words.now) index }
     ensures within { result ≤ length words.now }
 {
-    let place = firsts[HIDDEN_ROOTS] + 1 + index / PAGE_ENTRIES;
+    let place = roots.hidden_roots + 1 + index / PAGE_ENTRIES;
     let page = map.to_region(words[place]).unwrap_or(words.len());
     page + 1 + index % PAGE_ENTRIES
 }
@@ -93,12 +94,12 @@ fn check_classes(
     words: &[u64],
     map: &AddressMap,
     starts: &StartMap,
-    firsts: &[usize],
+    roots: &Roots,
 ) -> Result<StartMap, LoadError>
     requires all { AreOf map.now words.now }
     requires some { 0 < length map.now }
     requires checked { IsChecked map.now words.now starts.now }
-    requires first { AreFirst (file_store map.now words.now) firsts.now }
+    requires first { AreFirst (file_store map.now words.now) roots.now }
     ensures classes { IfOk result (HasClasses map.now words.now) }
     ensures told { IfErr result (λ e. (old : List ℕ) → TellsFrom map.now old (file_store map.now words.now) BadPage e) }
     ensures fault { IfErr result IsNoFault }
@@ -107,15 +108,21 @@ fn check_classes(
         return Err(LoadError::Memory);
     };
     mark_objects(words, map, starts, &mut ordinary);
-    match take_pages(words, map, firsts, &mut ordinary) {
+    match take_pages(words, map, roots, &mut ordinary) {
         Ok(()) => {}
         Err(place) => {
-            return Err(LoadError::Class(map.offset(firsts[HIDDEN_ROOTS] + 1 + place)));
+            return Err(LoadError::Class(map.offset(roots.hidden_roots + 1 + place)));
         }
     }
-    match first_bad_entry(words, map, starts, &ordinary, firsts) {
+    let image = ImageWords {
+        map,
+        starts,
+        ordinary: &ordinary,
+        roots: *roots,
+    };
+    match first_bad_entry(words, &image) {
         Ok(()) => Ok(ordinary),
-        Err(index) => Err(LoadError::Class(map.offset(entry_place(words, map, firsts, index)))),
+        Err(index) => Err(LoadError::Class(map.offset(entry_place(words, map, roots, index)))),
     }
 }
 
@@ -129,19 +136,19 @@ pub(crate) fn check(alloc: Global, words: &mut [u64], map: &AddressMap) -> Resul
     ensures fault { IfErr result IsNoFault }
     ensures long { length words.new ≡ length words.old }
 {
-    let firsts = match check_chunks(words, map) {
-        Ok(firsts) => firsts,
+    let roots = match check_chunks(words, map) {
+        Ok(roots) => roots,
         Err(error) => return Err(error),
     };
-    let starts = match check_forwarders(alloc, words, map, &firsts) {
+    let starts = match check_forwarders(alloc, words, map, &roots) {
         Ok(starts) => starts,
         Err(error) => return Err(error),
     };
-    match check_classes(alloc, words, map, &starts, &firsts) {
+    match check_classes(alloc, words, map, &starts, &roots) {
         Ok(ordinary) => Ok(Found {
             starts,
             ordinary,
-            firsts,
+            roots,
         }),
         Err(error) => Err(error),
     }

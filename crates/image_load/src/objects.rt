@@ -13,6 +13,7 @@ use crate::checks::check;
 use heap_segments::AddressMap;
 use image_checks::is_good_reference;
 use image_settle::{settle, settled_word};
+use image_words::ImageWords;
 use spur_words::Region;
 use std::alloc::Global;
 
@@ -40,17 +41,16 @@ fn settle_objects(
         Ok(found) => found,
         Err(error) => return Err(error),
     };
-    // The reference is followed while the words of forwarders are addresses, and judged when all slots have passed.
-    let is_good = is_good_reference(words, map, &found.starts, &found.ordinary, special);
-    let word = settled_word(
-        words,
+    let image = ImageWords {
         map,
-        &found.starts,
-        &found.ordinary,
-        found.firsts[0],
-        special,
-    );
-    match settle(words, map, &found.starts, &found.ordinary, &found.firsts) {
+        starts: &found.starts,
+        ordinary: &found.ordinary,
+        roots: found.roots,
+    };
+    // The reference is followed while the words of forwarders are addresses, and judged when all slots have passed.
+    let is_good = is_good_reference(words, &image, special);
+    let word = settled_word(words, &image, special);
+    match settle(words, &image) {
         Ok(()) => {}
         Err(slot) => return Err(LoadError::Slot(map.offset(slot))),
     }

@@ -8,8 +8,8 @@ use Rattle.std.proofs.lemmas.List.{append-nil}
 use Rattle.std.proofs.lemmas.List.Elements.{Contains-get_or}
 use Rattle.object_header.specs.Fields.{Fields, fields_of}
 use Rattle.object_header.specs.Head.{class_of, count_of}
-use Rattle.heap_walk.specs.declared.starts.StartMap.{StartMap}
-use Rattle.spur_graph.specs.Segments.{Segment, word_in}
+use Rattle.image_words.specs.declared.image.ImageWords.{ImageWords}
+use Rattle.spur_graph.specs.Segments.{word_in}
 use Rattle.object_header.specs.Chunks.{Chunk, leads, slots_told, Cuts, chunks, slots_of}
 use Rattle.spur_graph.specs.Cells.{Body, Moved, There, Store, read_cell, cell_in, cell_from, body_from, start_named, pointer_count, first}
 use Rattle.spur_graph.specs.Heaps.{HasNoUnusedBits, heap_to, row_store, IsClear}
@@ -85,10 +85,10 @@ told-same v w e l =
     let b : slots_told w ≡ count_of w = rw l refl in
     a ∙ ap (λ (f : Fields). f.count) e ∙ sym b
 
-module _ (segs : List Segment) (start_map ordinary_map : StartMap) (firsts old : List ℕ) (r : IsReady segs start_map ordinary_map firsts old) (mid : List ℕ) (len : length mid ≡ length old)
-    (cleared : (c : Chunk) → Contains (chunks old) c → (j : ℕ) → c.at ≤ j → j < c.at + c.size → IsCleared (file_store segs old) old c j (get_or mid j 0)) where
+module _ (image : ImageWords) (old : List ℕ) (r : IsReady image old) (mid : List ℕ) (len : length mid ≡ length old)
+    (cleared : (c : Chunk) → Contains (chunks old) c → (j : ℕ) → c.at ≤ j → j < c.at + c.size → IsCleared (file_store image.map.now old) old c j (get_or mid j 0)) where
   abbrev h : Store
-  h = file_store segs old
+  h = file_store image.map.now old
 
   abbrev cs : List Chunk
   cs = chunks old
@@ -137,8 +137,8 @@ module _ (segs : List Segment) (start_map ordinary_map : StartMap) (firsts old :
       none c k (sym (ap (λ (f : Fields). f.class) (header c k)) ∙ e)
 
   module _ (new : List ℕ) (new_len : length new ≡ length mid)
-      (turns : (c : Chunk) → Contains (chunks mid) c → (j : ℕ) → c.at ≤ j → j < c.at + c.size → IsTurned segs mid c j (get_or new j 0)) where
-    turned : (c : Chunk) → Contains cs c → (j : ℕ) → c.at ≤ j → j < c.at + c.size → IsTurned segs mid c j (get_or new j 0)
+      (turns : (c : Chunk) → Contains (chunks mid) c → (j : ℕ) → c.at ≤ j → j < c.at + c.size → IsTurned image.map.now mid c j (get_or new j 0)) where
+    turned : (c : Chunk) → Contains cs c → (j : ℕ) → c.at ≤ j → j < c.at + c.size → IsTurned image.map.now mid c j (get_or new j 0)
     turned c m = turns c (subst (λ xs. Contains xs c) (sym mid_chunks) m)
 
     new_header : (c : Chunk) → Contains cs c → get_or new c.start 0 ≡ get_or mid c.start 0
@@ -177,8 +177,8 @@ module _ (segs : List Segment) (start_map ordinary_map : StartMap) (firsts old :
     mid_class : (c : Chunk) → Contains cs c → class_of (get_or mid c.start 0) ≡ class_of (get_or old c.start 0)
     mid_class c m = ap (λ (f : Fields). f.class) (header c m)
 
-    told_cell : (c : Chunk) → Contains cs c → h.cell c.start ≡ cell_from (fields_of (get_or old c.start 0)) (start_named (word_in segs 0) old (get_or old (c.start + 1) 0)) (slots_of old c)
-    told_cell c m = cell-at (word_in segs 0) old 0 (length old) cs c (all-in_order old r.cut) (in_list cs c m) ∙ told (word_in segs 0) old c
+    told_cell : (c : Chunk) → Contains cs c → h.cell c.start ≡ cell_from (fields_of (get_or old c.start 0)) (start_named (word_in image.map.now 0) old (get_or old (c.start + 1) 0)) (slots_of old c)
+    told_cell c m = cell-at (word_in image.map.now 0) old 0 (length old) cs c (all-in_order old r.cut) (in_list cs c m) ∙ told (word_in image.map.now 0) old c
 
     -- a slot after the first walk
     mid_slot : (c : Chunk) → Contains cs c → (i : ℕ) → i < c.slots → get_or mid (c.start + 1 + i) 0 ≡ slot_in h c.start (h.cell c.start) i (get_or old (c.start + 1 + i) 0)
@@ -189,19 +189,19 @@ module _ (segs : List Segment) (start_map ordinary_map : StartMap) (firsts old :
         ∙ ap (λ n. slot_in h c.start (h.cell c.start) n (get_or old (c.start + 1 + i) 0)) k
 
     target : (c : Chunk) → Contains cs c → class_of (get_or old c.start 0) ≢ 0 → class_of (get_or old c.start 0) ≡ 8
-        → start_named heap_to new (get_or new (c.start + 1) 0) ≡ start_named (word_in segs 0) old (get_or old (c.start + 1) 0)
+        → start_named heap_to new (get_or new (c.start + 1) 0) ≡ start_named (word_in image.map.now 0) old (get_or old (c.start + 1) 0)
     target c m n e =
         let p = (placed c m).lies in
         let w = get_or old (c.start + 1) 0 in
         let zero_more : c.start + 1 + 0 ≡ c.start + 1 = omega arith in
-        let moved : h.cell c.start ≡ Moved (start_named (word_in segs 0) old w) = told_cell c m ∙ made (fields_of (get_or old c.start 0)) (start_named (word_in segs 0) old w) (slots_of old c) n e in
+        let moved : h.cell c.start ≡ Moved (start_named (word_in image.map.now 0) old w) = told_cell c m ∙ made (fields_of (get_or old c.start 0)) (start_named (word_in image.map.now 0) old w) (slots_of old c) n e in
         let mid_word : get_or mid (c.start + 1) 0 ≡ w = elim (cases_lt 0 c.slots) [
           | inl l ↦ ap (λ k. get_or mid k 0) (sym zero_more) ∙ mid_slot c m 0 l ∙ ap (λ x. slot_in h c.start x 0 (get_or old (c.start + 1 + 0) 0)) moved ∙ ap (λ k. get_or old k 0) zero_more
           | inr l ↦ (cleared c m (c.start + 1) (omega (arith, p.lead)) (omega (arith, p.room))).behind (omega arith)
         ] in
         let new_word = (turned c m (c.start + 1) (omega (arith, p.lead)) (omega (arith, p.room))).target (mid_class c m ∙ e) refl in
-        ap (start_named heap_to new) new_word ∙ heap_named (start_named (word_in segs 0) mid (get_or mid (c.start + 1) 0)) (length new)
-        ∙ ap (start_named (word_in segs 0) mid) mid_word ∙ ap (unwrap_or (word_in segs 0 w)) len
+        ap (start_named heap_to new) new_word ∙ heap_named (start_named (word_in image.map.now 0) mid (get_or mid (c.start + 1) 0)) (length new)
+        ∙ ap (start_named (word_in image.map.now 0) mid) mid_word ∙ ap (unwrap_or (word_in image.map.now 0 w)) len
       where
         made : (f : Fields) (t : ℕ) (ws : List ℕ) → f.class ≢ 0 → f.class ≡ 8 → cell_from f t ws ≡ Moved t
         made f t ws a b = rw (ne_eqb f.class 0 a, eq-eqb f.class 8 b) refl
@@ -214,7 +214,7 @@ module _ (segs : List Segment) (start_map ordinary_map : StartMap) (firsts old :
         let long_old : length (slots_of old c) ≡ c.slots = omega (arith, length-take c.slots (drop (c.start + 1) old), length-drop (c.start + 1) old, p.slots, p.before) in
         let long_new : length (slots_of new c) ≡ c.slots = omega (arith, length-take c.slots (drop (c.start + 1) new), length-drop (c.start + 1) new, p.slots, p.before, len, new_len) in
         let f : Fields = fields_of (get_or old c.start 0) in
-        let there : h.cell c.start ≡ There b = told_cell c m ∙ to_object f (start_named (word_in segs 0) old (get_or old (c.start + 1) 0)) (slots_of old c) (ne_eqb f.class 0 n) (ne_eqb f.class 8 o) in
+        let there : h.cell c.start ≡ There b = told_cell c m ∙ to_object f (start_named (word_in image.map.now 0) old (get_or old (c.start + 1) 0)) (slots_of old c) (ne_eqb f.class 0 n) (ne_eqb f.class 8 o) in
         ext_get_or 0 _ _ (long_new ∙ sym long_old ∙ sym (length-settled h c.start b)) (λ i l.
         let low : i < c.slots = omega (arith, l, long_new) in
         let old_word : get_or (slots_of old c) i 0 ≡ get_or old (c.start + 1 + i) 0 = get_or-take c.slots (drop (c.start + 1) old) i 0 low ∙ get_or-drop (c.start + 1) old i 0 in
@@ -225,20 +225,20 @@ module _ (segs : List Segment) (start_map ordinary_map : StartMap) (firsts old :
         ∙ ap (settled_slot h c.start b i) (sym old_word)
         ∙ sym (settled-at h c.start b i (omega (arith, low, long_old))))
 
-    read_made : (c : Chunk) → Contains cs c → read_cell heap_to new c ≡ settled_cell h c.start (read_cell (word_in segs 0) old c)
+    read_made : (c : Chunk) → Contains cs c → read_cell heap_to new c ≡ settled_cell h c.start (read_cell (word_in image.map.now 0) old c)
     read_made c m =
         let f = fields_of (get_or old c.start 0) in
         told heap_to new c
         ∙ ap (λ g. cell_from g (start_named heap_to new (get_or new (c.start + 1) 0)) (slots_of new c)) (final_header c m)
-        ∙ cell-made h c.start f (start_named (word_in segs 0) old (get_or old (c.start + 1) 0)) (start_named heap_to new (get_or new (c.start + 1) 0)) (slots_of old c) (slots_of new c) (target c m) (slots_made c m)
-        ∙ ap (settled_cell h c.start) (sym (told (word_in segs 0) old c))
+        ∙ cell-made h c.start f (start_named (word_in image.map.now 0) old (get_or old (c.start + 1) 0)) (start_named heap_to new (get_or new (c.start + 1) 0)) (slots_of old c) (slots_of new c) (target c m) (slots_made c m)
+        ∙ ap (settled_cell h c.start) (sym (told (word_in image.map.now 0) old c))
 
     pub settled : IsSettled h (row_store new)
     settled = record {
       more = [];
       starts = ap starts_of settled_chunks ∙ sym (append-nil (starts_of cs));
       free = λ k d l. absurd (omega arith);
-      cells = λ s. ap (λ xs. cell_in heap_to new xs s) settled_chunks ∙ cells-mapped (word_in segs 0) heap_to old new cs (settled_cell h) read_made (λ n. refl) s;
+      cells = λ s. ap (λ xs. cell_in heap_to new xs s) settled_chunks ∙ cells-mapped (word_in image.map.now 0) heap_to old new cs (settled_cell h) read_made (λ n. refl) s;
       names = omega (arith, len, new_len);
       behind = λ k d l. absurd (omega arith);
       to = refl;

@@ -1,21 +1,20 @@
 -- The least bad pointer slot, found by a walk over the chunks.
-use Rattle.std.proofs.Common.{◌≡◌, ℕ, Bool, true, false, cond, ◌+◌, ◌<◌, ◌≤◌, List, length, get_or, drop, sym, ap, ◌∙◌, arith, inl, inr, subst}
-use Rattle.std.proofs.lemmas.Bool.{cases_eq, cases_lt}
+use Rattle.std.proofs.Common.{◌≡◌, ℕ, Bool, true, false, cond, ◌+◌, ◌<◌, ◌≤◌, List, length, get_or, drop, sym, ap, arith, inl, inr, subst}
+use Rattle.std.proofs.lemmas.Bool.{cases_lt}
 use Rattle.std.proofs.lemmas.List.{length-take}
 use Rattle.std.specs.List.{Contains}
-use Rattle.heap_walk.specs.declared.starts.StartMap.{StartMap}
-use Rattle.spur_graph.specs.Segments.{Segment}
+use Rattle.image_words.specs.declared.image.ImageWords.{ImageWords}
 use Rattle.object_header.specs.Chunks.{Chunk, chunk_of, leads, slots_at}
 use Rattle.spur_graph.specs.Cells.{Body, Store, pointer_count}
 use Rattle.spur_graph.specs.ImageCauses.{IsLeast}
 use Rattle.spur_graph.specs.Ordinary.{body_at, is_ordinary}
-use Rattle.heap_cells.specs.Rows.{starts_of, ReadsStart}
+use Rattle.heap_cells.specs.Rows.{starts_of}
 use Rattle.heap_cells.proofs.Bodies.{pointers_fit}
 use Rattle.heap_cells.proofs.CellKinds.{there_starts}
 use Rattle.heap_cells.proofs.Cutting.{shape}
 use Rattle.heap_cells.proofs.Members.{listed, start_of_chunk}
 use Rattle.heap_cells.proofs.References.{ordinary_there}
-use Rattle.image_references.specs.References.{IsBadPointer, IsBadPointerOf}
+use Rattle.image_words.specs.References.{IsBadPointer, IsBadPointerOf}
 use Rattle.image_settle.specs.Settles.{IsReady}
 use Rattle.image_settle.proofs.Walking.{Comes, Walking, comes}
 use Rattle.image_settle.proofs.Steps.{Spans, spans_old}
@@ -30,27 +29,27 @@ one : (b : Bool) → cond b 1 0 ≤ 1
 one true = omega arith
 one false = omega arith
 
-module _ (segs : List Segment) (start_map ordinary_map : StartMap) (firsts old : List ℕ) (r : IsReady segs start_map ordinary_map firsts old) where
+module _ (image : ImageWords) (old : List ℕ) (r : IsReady image old) where
   abbrev store : Store
-  store = h segs start_map ordinary_map firsts old r
+  store = h image old r
 
   abbrev row : List Chunk
-  row = cs segs start_map ordinary_map firsts old r
+  row = cs image old r
 
   ordinary_reads : (s : ℕ) → is_ordinary store s ≡ true → Contains (starts_of row) s
-  ordinary_reads s e = (read segs start_map ordinary_map firsts old r s (there_starts (store.cell s) (ordinary_there store s e))).stands
+  ordinary_reads s e = (read image old r s (there_starts (store.cell s) (ordinary_there store s e))).stands
 
   -- the pointers of an ordinary object are among its slots
   fits : (s : ℕ) → is_ordinary store s ≡ true → pointer_count (body_at store s) ≤ slots_at old s
   fits s e =
       let there = ordinary_there store s e in
-      let body = (read segs start_map ordinary_map firsts old r s (there_starts (store.cell s) there)).body there in
+      let body = (read image old r s (there_starts (store.cell s) there)).body there in
       omega (arith, pointers_fit (body_at store s) (r.formed s there), ap (λ (b : Body). length b.words) body, length-take (slots_at old s) (drop (s + 1) old))
 
   -- of the words of a chunk, the start of an ordinary object is its own
   alone : (at : ℕ) (c : Chunk) → Comes old row at c → (t : ℕ) → is_ordinary store t ≡ true → at ≤ t → t < at + c.size → t ≡ c.start
   alone at c k t e low high =
-      let up = rise segs start_map ordinary_map firsts old r in
+      let up = rise image old r in
       let sh = shape old c k.chunk in
       let here : Contains (starts_of row) c.start = listed (starts_of row) c.start (start_of_chunk row c k.inside) in
       elim (cases_lt t c.start) [
@@ -80,7 +79,7 @@ module _ (segs : List Segment) (start_map ordinary_map : StartMap) (firsts old :
           | inl low ↦ before t low m (j, is, format, bad)
           | inr high ↦ elim (cases_lt c.start t) [
             | inl over ↦
-                let room = (rise segs start_map ordinary_map firsts old r).apart c.start t (ordinary_reads c.start a.ordinary) (ordinary_reads t b.ordinary) over in
+                let room = (rise image old r).apart c.start t (ordinary_reads c.start a.ordinary) (ordinary_reads t b.ordinary) over in
                 omega (arith, room.slots, is, least.is.1, l, a.inside, fits c.start a.ordinary)
             | inr under ↦
                 let same = alone at c k t b.ordinary high (omega (arith, under, k.lies.room, k.at)) in
@@ -92,7 +91,7 @@ module _ (segs : List Segment) (start_map ordinary_map : StartMap) (firsts old :
   pub none_at_all : (at : ℕ) → length old ≤ at → NoneBefore store at → (n : ℕ) → IsBadPointer store n → ⊥
   none_at_all at far before n (s, i, is, format, bad) =
       let there = ordinary_there store s (bad_at store s i bad).ordinary in
-      let below = (read segs start_map ordinary_map firsts old r s (there_starts (store.cell s) there)).below in
+      let below = (read image old r s (there_starts (store.cell s) there)).below in
       before s (omega (arith, below, far)) n (i, is, format, bad)
 
   -- ---- the same by the span that was read

@@ -4,8 +4,7 @@ use Rattle.std.proofs.lemmas.Bool.{false≢true, cases_lt}
 use Rattle.std.proofs.lemmas.List.{length-drop, get_or-drop, ext_get_or}
 use Rattle.std.specs.List.{Contains}
 use Rattle.object_header.specs.Fields.{fields_of}
-use Rattle.heap_walk.specs.declared.starts.StartMap.{StartMap}
-use Rattle.spur_graph.specs.Segments.{Segment, word_in}
+use Rattle.spur_graph.specs.Segments.{word_in}
 use Rattle.object_header.specs.Chunks.{Chunk, chunk_of, chunks, slots_of}
 use Rattle.spur_graph.specs.Cells.{Store, read_cell, cell_from, start_named, is_start, is_moved, first}
 use Rattle.heap_cells.specs.Rows.{starts_of, AreStarts, ReadsStart}
@@ -13,7 +12,7 @@ use Rattle.heap_cells.proofs.CellKinds.{there_starts, there_is_not_moved, moved_
 use Rattle.heap_cells.proofs.Members.{listed, start_of_chunk}
 use Rattle.heap_cells.proofs.Cutting.{shape, cell-at, all-in_order}
 use Rattle.heap_cells.proofs.Starts.{start-read, starts-rise}
-use Rattle.image_references.specs.References.{Leads, HasOrdinary}
+use Rattle.image_words.specs.declared.image.ImageWords.{ImageWords}
 use Rattle.image_settle.specs.Settles.{IsReady, Follows, IsNext}
 use Rattle.spur_graph.specs.FileStores.{file_store}
 use Rattle.image_settle.proofs.Walking.{Comes, Walking, comes}
@@ -24,38 +23,23 @@ pub told : (to : ℕ → Option ℕ) (old : List ℕ) (c : Chunk) → read_cell 
 unfolding read_cell
 told to old c = refl
 
-module _ (segs : List Segment) (start_map ordinary_map : StartMap) (firsts old : List ℕ) (r : IsReady segs start_map ordinary_map firsts old) where
+module _ (image : ImageWords) (old : List ℕ) (r : IsReady image old) where
   abbrev pub h : Store
-  h = file_store segs old
+  h = file_store image.map.now old
 
   abbrev pub cs : List Chunk
   cs = chunks old
 
-  pub read : (s : ℕ) → is_start (h.cell s) ≡ true → ReadsStart (word_in segs 0) old (length old) cs s
-  read s k = start-read (word_in segs 0) old (length old) cs s (all-in_order old r.cut) k
+  pub read : (s : ℕ) → is_start (h.cell s) ≡ true → ReadsStart (word_in image.map.now 0) old (length old) cs s
+  read s k = start-read (word_in image.map.now 0) old (length old) cs s (all-in_order old r.cut) k
 
-  ready_leads : Leads h segs start_map old
-  ready_leads = record {
-    to = λ w. refl;
-    names = refl;
-    inside = λ s k. (read s k).below;
-    starts = r.starts;
-    covers = r.covers.0;
-    moved = λ s k. (read s k).moved;
-    target = λ s m. (read s (moved_starts (h.cell s) m)).target m;
-    resolved = r.resolved;
-  }
-
-  pub ready_follows : Follows h segs start_map old
+  pub ready_follows : Follows h image
   ready_follows = record {
-    leads = ready_leads;
+    maps = r.maps;
     below = r.named.below;
     nil = let k = (read (first h 0) (there_starts (h.cell (first h 0)) r.nil)).below in omega arith;
     small = r.small;
   }
-
-  pub ready_ordinary : HasOrdinary h ordinary_map
-  ready_ordinary = record { has = r.ordinary; covers = r.covers.1 }
 
   pub rise : AreStarts old (length old) cs
   rise = starts-rise old (length old) cs (all-in_order old r.cut)
@@ -70,10 +54,10 @@ module _ (segs : List Segment) (start_map ordinary_map : StartMap) (firsts old :
       (omega (arith, length-drop (c.start + 1) new, length-drop (c.start + 1) old, len))
       (λ i b. get_or-drop (c.start + 1) new i 0 ∙ same (c.start + 1 + i) (omega arith) ∙ sym (get_or-drop (c.start + 1) old i 0)) in
       record {
-        target = start_named (word_in segs 0) old (get_or old (c.start + 1) 0);
-        cell = cell-at (word_in segs 0) old 0 (length old) cs c (all-in_order old r.cut) k.inside ∙ told (word_in segs 0) old c
-            ∙ ap (λ w. cell_from (fields_of w) (start_named (word_in segs 0) old (get_or old (c.start + 1) 0)) (slots_of old c)) (sym (same c.start low))
-            ∙ ap (λ ws. cell_from (fields_of (get_or new c.start 0)) (start_named (word_in segs 0) old (get_or old (c.start + 1) 0)) (take c.slots ws)) (sym rest);
+        target = start_named (word_in image.map.now 0) old (get_or old (c.start + 1) 0);
+        cell = cell-at (word_in image.map.now 0) old 0 (length old) cs c (all-in_order old r.cut) k.inside ∙ told (word_in image.map.now 0) old c
+            ∙ ap (λ w. cell_from (fields_of w) (start_named (word_in image.map.now 0) old (get_or old (c.start + 1) 0)) (slots_of old c)) (sym (same c.start low))
+            ∙ ap (λ ws. cell_from (fields_of (get_or new c.start 0)) (start_named (word_in image.map.now 0) old (get_or old (c.start + 1) 0)) (take c.slots ws)) (sym rest);
         below = omega (arith, l.room, l.before, len);
         fits = omega (arith, l.slots, l.before, len);
         formed = r.formed c.start;

@@ -1,6 +1,6 @@
 -- The slots of a chunk, by its header.
-use Rattle.std.proofs.Common.{◌≡◌, ◌≢◌, ℕ, true, ◌+◌, ◌<◌, ◌≤◌, List, length, get_or, set, take, drop, refl, sym, ap, ◌∙◌, arith}
-use Rattle.std.proofs.lemmas.Bool.{ne_eqb, eq-eqb, lt-ltb, le-ltb}
+use Rattle.std.proofs.Common.{◌≡◌, ◌≢◌, ℕ, true, ◌+◌, ◌-◌, ◌<◌, ◌≤◌, List, length, get_or, set, take, drop, refl, sym, ap, ◌∙◌, arith, inl, inr}
+use Rattle.std.proofs.lemmas.Bool.{cases_lt, ne_eqb, eq-eqb, lt-ltb, le-ltb}
 use Rattle.std.proofs.lemmas.List.{length-take, length-drop, get_or-take, get_or-drop, drop-set-lt, length-set}
 use Rattle.object_header.specs.Fields.{fields_of}
 use Rattle.object_header.specs.Formats.{pointer_slots_of}
@@ -12,7 +12,7 @@ use Rattle.heap_cells.proofs.Bodies.{pointers-same, pointers_fit, method_some}
 use Rattle.heap_cells.proofs.ObjectWrites.{to_object}
 use Rattle.image_settle.specs.Settles.{IsLoose, IsNext, slot_in}
 
-module _ (h : Store) (words : List ℕ) (header start slots : ℕ) (n : IsNext h words header start slots) (not_free : class_of header ≢ 0) (not_moved : class_of header ≢ 8) where
+module _ {h : Store} {words : List ℕ} {header start slots : ℕ} (n : IsNext h words header start slots) (not_free : class_of header ≢ 0) (not_moved : class_of header ≢ 8) where
   abbrev pub the_body : Body
   the_body = body_from (fields_of header) (take slots (drop (start + 1) words))
 
@@ -50,17 +50,29 @@ module _ (h : Store) (words : List ℕ) (header start slots : ℕ) (n : IsNext h
   pub in_roots : start ≡ first h 4 → (i w : ℕ) → slot_in h start (h.cell start) i w ≡ settled_root h i w
   in_roots e i w = rw (stands, eq-eqb start (first h 4) e) refl
 
-  pub in_front : start ≢ first h 4 → start ≢ first h 3 → (k : ℕ) → k ≡ pointer_slots_of (format_of header) slots (literals_of (get_or words (start + 1) 0))
+  in_front : start ≢ first h 4 → start ≢ first h 3 → (k : ℕ) → k ≡ pointer_slots_of (format_of header) slots (literals_of (get_or words (start + 1) 0))
       → (i w : ℕ) → i < k → slot_in h start (h.cell start) i w ≡ settled_word h w
   in_front n4 n3 k e i w l = rw (stands, ne_eqb start (first h 4) n4, ne_eqb start (first h 3) n3, lt-ltb i (pointer_count the_body) (omega (arith, e ∙ count))) refl
 
-  pub in_rest : start ≢ first h 4 → start ≢ first h 3 → (k : ℕ) → k ≡ pointer_slots_of (format_of header) slots (literals_of (get_or words (start + 1) 0))
+  in_rest : start ≢ first h 4 → start ≢ first h 3 → (k : ℕ) → k ≡ pointer_slots_of (format_of header) slots (literals_of (get_or words (start + 1) 0))
       → (i w : ℕ) → k ≤ i → slot_in h start (h.cell start) i w ≡ w
   in_rest n4 n3 k e i w l = rw (stands, ne_eqb start (first h 4) n4, ne_eqb start (first h 3) n3, le-ltb i (pointer_count the_body) (omega (arith, e ∙ count))) refl
 
+  -- the slots, where the pointers are settled and the others stay
+  pub slots_written : start ≢ first h 4 → start ≢ first h 3 → (k : ℕ) → k ≡ pointer_slots_of (format_of header) slots (literals_of (get_or words (start + 1) 0)) → (new : List ℕ)
+      → ((j : ℕ) → start + 1 ≤ j → j < start + 1 + k → get_or new j 0 ≡ settled_word h (get_or words j 0)) → ((j : ℕ) → start + 1 + k ≤ j → get_or new j 0 ≡ get_or words j 0)
+      → (j : ℕ) → start < j → j < start + 1 + slots → get_or new j 0 ≡ slot_in h start (h.cell start) (j - start - 1) (get_or words j 0)
+  slots_written n4 n3 k e new settled rest j l m =
+      let i = j - start - 1 in
+      let w = get_or words j 0 in
+      elim (cases_lt i k) [
+        | inl in_it ↦ settled j (omega (arith, l)) (omega (arith, l, in_it)) ∙ sym (in_front n4 n3 k e i w in_it)
+        | inr past ↦ rest j (omega (arith, l, past)) ∙ sym (in_rest n4 n3 k e i w past)
+      ]
+
 -- a chunk whose header is written
-pub next_written : (h : Store) (words : List ℕ) (header start slots w : ℕ) → IsNext h words header start slots → IsNext h (set words start w) header start slots
-next_written h words header start slots w n =
+pub next_written : {h : Store} {words : List ℕ} {header start slots : ℕ} (w : ℕ) → IsNext h words header start slots → IsNext h (set words start w) header start slots
+next_written {h} {words} {header} {start} {slots} w n =
     let long = length-set words start w in
     record {
       target = n.target;

@@ -1,21 +1,17 @@
 -- The pointer slots that are to have values.
-use Rattle.std.proofs.Common.{◌≡◌, ◌≢◌, ℕ, Bool, true, false, not, ◌&&◌, ◌+◌, ◌-◌, ◌<◌, ◌≤◌, ltb, nat_eq, List, length, get_or, take, drop, cond, refl, sym, ap, ◌∙◌, arith, inl, inr, Ok, Err, Result, Option, Some, None}
-use Rattle.std.proofs.lemmas.Bool.{false≢true, cases_Bool, cases_eq, and_parts, or_parts, eqb-false, ne_eqb, eq-eqb, lt-ltb, ltb-true, not-true}
+use Rattle.std.proofs.Common.{◌≡◌, ◌≢◌, ℕ, true, false, not, ◌&&◌, ◌+◌, ◌-◌, ◌<◌, ◌≤◌, ltb, List, get_or, take, drop, refl, sym, ap, ◌∙◌, arith, Ok, Err, Result}
+use Rattle.std.proofs.lemmas.Bool.{false≢true, and_parts, ne_eqb, eq-eqb, lt-ltb, ltb-true, not-true}
 use Rattle.std.proofs.lemmas.List.{get_or-take, get_or-drop}
 use Rattle.object_header.specs.Fields.{Fields, fields_of}
 use Rattle.object_header.specs.Formats.{pointer_slots_of}
 use Rattle.object_header.specs.Head.{class_of, format_of, literals_of}
-use Rattle.heap_walk.specs.declared.starts.StartMap.{StartMap}
-use Rattle.heap_walk.specs.Starts.{has_start}
-use Rattle.spur_graph.specs.Value.{is_immediate_word}
-use Rattle.spur_graph.specs.Cells.{Body, Store, cell_from, is_there, pointer_count, first, lead}
-use Rattle.spur_graph.specs.ImageCauses.{IsLeast, FindsLeast}
-use Rattle.spur_graph.specs.Ordinary.{body_at, is_ordinary, is_good_reference, is_good_word, is_bad_slot}
-use Rattle.heap_cells.specs.Settled.{settled_word, word_of}
+use Rattle.spur_graph.specs.Cells.{Body, Store, cell_from, is_there, pointer_count}
+use Rattle.spur_graph.specs.ImageCauses.{FindsLeast}
+use Rattle.spur_graph.specs.Ordinary.{body_at, is_ordinary, is_good_word, is_bad_slot}
 use Rattle.heap_cells.proofs.References.{ordinary_there}
-use Rattle.image_references.specs.References.{HasOrdinary, IsBadPointerOf}
+use Rattle.image_words.specs.References.{IsBadPointerOf}
 use Rattle.image_settle.specs.Settles.{IsNext}
-use Rattle.image_settle.proofs.Slots.{the_body, body, count, count_fits, long}
+use Rattle.image_settle.proofs.Slots.{the_body, body, count, count_fits}
 
 -- the least of a set is that of an equal one
 pub least_same : (P Q : ℕ → Type 0) (r : Result (Unit {0}) ℕ) → ((n : ℕ) → P n → Q n) → ((n : ℕ) → Q n → P n) → FindsLeast P r → FindsLeast Q r
@@ -42,7 +38,7 @@ not_object f t ws = (
   λ e. rw (ne_eqb f.class 0 (λ z. omega (arith, e, z)), eq-eqb f.class 8 e) refl,
 )
 
-module _ (h : Store) (words : List ℕ) (header start slots : ℕ) (n : IsNext h words header start slots) (there : is_ordinary h start ≡ true) where
+module _ {h : Store} {words : List ℕ} {header start slots : ℕ} (n : IsNext h words header start slots) (there : is_ordinary h start ≡ true) where
   pub not_free : class_of header ≢ 0
   not_free e =
       let none = (not_object (fields_of header) n.target (take slots (drop (start + 1) words))).0 e in
@@ -53,14 +49,14 @@ module _ (h : Store) (words : List ℕ) (header start slots : ℕ) (n : IsNext h
       let none = (not_object (fields_of header) n.target (take slots (drop (start + 1) words))).1 e in
       false≢true (sym none ∙ ap is_there (sym n.cell) ∙ ordinary_there h start there)
 
-  pub body_here : body_at h start ≡ the_body h words header start slots n not_free not_moved
-  body_here = body h words header start slots n not_free not_moved
+  pub body_here : body_at h start ≡ the_body n not_free not_moved
+  body_here = body n not_free not_moved
 
   pub format_here : (body_at h start).format ≡ format_of header
   format_here = ap (λ (b : Body). b.format) body_here
 
   pub pointers_here : pointer_slots_of (format_of header) slots (literals_of (get_or words (start + 1) 0)) ≡ pointer_count (body_at h start)
-  pointers_here = count h words header start slots n not_free not_moved ∙ ap pointer_count (sym body_here)
+  pointers_here = count n not_free not_moved ∙ ap pointer_count (sym body_here)
 
   word_here : (i : ℕ) → i < slots → get_or (body_at h start).words i 0 ≡ get_or words (start + 1 + i) 0
   word_here i l = ap (λ (b : Body). get_or b.words i 0) body_here ∙ get_or-take slots (drop (start + 1) words) i 0 l ∙ get_or-drop (start + 1) words i 0
@@ -69,7 +65,7 @@ module _ (h : Store) (words : List ℕ) (header start slots : ℕ) (n : IsNext h
   pub least_here : format_of header ≢ 3 → (k : ℕ) → k ≡ pointer_slots_of (format_of header) slots (literals_of (get_or words (start + 1) 0)) → (r : Result (Unit {0}) ℕ)
       → FindsLeast (λ j. (start + 1 ≤ j) × (j < start + 1 + k) × (is_good_word h (get_or words j 0) ≡ false)) r → FindsLeast (IsBadPointerOf h start) r
   least_here other k e r least =
-      let fits : k ≤ slots = count_fits h words header start slots n not_free not_moved k e in
+      let fits : k ≤ slots = count_fits n not_free not_moved k e in
       let Bad : ℕ → Type 0 = λ j. (start + 1 ≤ j) × (j < start + 1 + k) × (is_good_word h (get_or words j 0) ≡ false) in
       least_same Bad (IsBadPointerOf h start) r
       (λ j (low, high, bad).

@@ -4,42 +4,32 @@ use Rattle.std.specs.List.{Contains}
 use Rattle.object_header.specs.Fields.{Fields, fields_of}
 use Rattle.object_header.specs.Head.{class_of}
 use Rattle.object_header.specs.declared.header.TheConstants.{FORWARDER_CLASS}
-use Rattle.heap_walk.specs.declared.starts.StartMap.{StartMap}
-use Rattle.heap_walk.specs.Starts.{has_start, covered}
 use Rattle.spur_graph.specs.Segments.{Segment, word_in}
 use Rattle.object_header.specs.Chunks.{Chunk, Cuts, chunks}
 use Rattle.spur_graph.specs.Cells.{Body, Cell, Empty, Moved, There, Store, cell_from, start_named, pointer_count, first, is_start, is_moved, is_there, is_formed}
-use Rattle.spur_graph.specs.Ordinary.{body_at, is_ordinary}
+use Rattle.spur_graph.specs.Ordinary.{body_at}
 use Rattle.spur_graph.specs.Heaps.{HasNoUnusedBits}
-use Rattle.image_references.specs.References.{Leads}
+use Rattle.image_words.specs.declared.image.ImageWords.{ImageWords}
+use Rattle.image_words.specs.References.{IsImage, Leads}
 use Rattle.heap_cells.specs.Settled.{IsNamed, word_of, settled_word, settled_root}
 use Rattle.spur_graph.specs.FileStores.{file_store}
 
--- the starts of the first five chunks
-pub record AreFirsts (h : Store) (firsts : List ℕ) : Type 0 where
-  pub five : 5 ≤ length firsts
-  pub are : (k : ℕ) → k < 5 → slice_index firsts k ≡ first h k
-
--- what the checks of an image's chunks, forwarders and class table leave: its objects are formed, the maps have the starts of its objects and
--- forwarders, and those of its ordinary objects, and each forwarder names the object to which it leads
-pub record IsReady (segs : List Segment) (start_map ordinary_map : StartMap) (firsts words : List ℕ) : Type 0 where
+-- what the checks of an image's chunks, forwarders and class table leave: its objects are formed, and the maps and the roots are theirs
+pub record IsReady (image : ImageWords) (words : List ℕ) : Type 0 where
   pub cut : Cuts words 0 (length words) (chunks words)
-  pub formed : (s : ℕ) → is_there ((file_store segs words).cell s) ≡ true → is_formed (body_at (file_store segs words) s) ≡ true
-  pub nil : is_there ((file_store segs words).cell (first (file_store segs words) 0)) ≡ true
-  pub named : IsNamed (file_store segs words)
-  pub resolved : (s t : ℕ) → (file_store segs words).cell s ≡ Moved t → is_there ((file_store segs words).cell t) ≡ true
-  pub starts : (s : ℕ) → has_start start_map s ≡ is_start ((file_store segs words).cell s)
-  pub ordinary : (s : ℕ) → has_start ordinary_map s ≡ is_ordinary (file_store segs words) s
-  pub first_five : AreFirsts (file_store segs words) firsts
-  pub covers : (covered start_map ≡ length words) × (covered ordinary_map ≡ length words)
+  pub formed : (s : ℕ) → is_there ((file_store image.map.now words).cell s) ≡ true → is_formed (body_at (file_store image.map.now words) s) ≡ true
+  pub nil : is_there ((file_store image.map.now words).cell (first (file_store image.map.now words) 0)) ≡ true
+  pub named : IsNamed (file_store image.map.now words)
+  pub maps : IsImage (file_store image.map.now words) image
+  pub leads : Leads (file_store image.map.now words) words
   pub small : length words ≤ 2 ^ 27
 
--- the words tell where those of a store lead; each start that a word names is that of one of them, and so is nil
-pub record Follows (h : Store) (segs : List Segment) (start_map : StartMap) (words : List ℕ) : Type 0 where
-  pub leads : Leads h segs start_map words
+-- the maps and the roots are those of a store in which each start that a word names is that of one of its words, and so is nil
+pub record Follows (h : Store) (image : ImageWords) : Type 0 where
+  pub maps : IsImage h image
   pub below : (w s : ℕ) → h.to w ≡ Some s → s < h.names
-  pub nil : first h 0 < length words
-  pub small : length words ≤ 2 ^ 27
+  pub nil : first h 0 < h.names
+  pub small : h.names ≤ 2 ^ 27
 
 -- the word is no header, and not that of a forwarder
 pub record IsLoose (h : Store) (j : ℕ) : Type 0 where

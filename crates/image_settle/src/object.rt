@@ -1,22 +1,20 @@
 // The words of one chunk.
-ghost use Rattle.std.specs.Prelude.{◌≡◌, ◌≢◌, ◌≤◌, ◌<◌, ◌+◌, ◌-◌, ◌^◌, ◌*◌, ◌&&◌, ℕ, length, slice_index, true, false, not, nat_eq, Some, OnOk};
-ghost use Rattle.spur_graph.specs.Segments.{word_in};
+ghost use Rattle.std.specs.Prelude.{◌≡◌, ◌≢◌, ◌≤◌, ◌<◌, ◌+◌, ◌-◌, ◌&&◌, ℕ, length, slice_index, true, false, not, nat_eq, OnOk};
 ghost use Rattle.object_header.specs.Fields.{fields_of};
 ghost use Rattle.object_header.specs.Head.{format_of};
 ghost use Rattle.heap_walk.specs.Starts.{has_start, covered};
 ghost use Rattle.spur_graph.specs.ImageCauses.{FindsLeast};
 ghost use Rattle.spur_graph.specs.Ordinary.{is_ordinary, is_good_word};
-ghost use Rattle.spur_graph.specs.Cells.{Store, first};
+ghost use Rattle.spur_graph.specs.Cells.{Store};
 ghost use Rattle.spur_graph.specs.Heaps.{HasNoUnusedBits};
 ghost use Rattle.heap_cells.specs.Settled.{settled_word, settled_root};
-ghost use Rattle.image_references.specs.References.{HasOrdinary, IsBadPointerOf};
-ghost use Rattle.image_settle.specs.Settles.{Follows, AreFirsts, IsLoose, IsNext, unmarked, slot_in};
+ghost use Rattle.image_words.specs.References.{Leads, IsBadPointerOf};
+ghost use Rattle.image_settle.specs.Settles.{Follows, IsLoose, IsNext, unmarked, slot_in};
 
 use crate::word::{settled_root, settled_word, value_word};
-use heap_segments::AddressMap;
 use heap_walk::{Span, StartMap};
+use image_words::ImageWords;
 use object_header::{FORWARDER_CLASS, FREE_CLASS, Header};
-use spur_graph::{FREE_LISTS, HIDDEN_ROOTS};
 
 /// Format of a context, whose slots are read otherwise.
 const CONTEXT_FORMAT: u64 = 3;
@@ -36,30 +34,23 @@ pub(crate) fn cleared(header: Header) -> Header
 }
 
 /// Follows the words from `from` up to `to`. The error is the index of the first of them that is no value.
-fn settle_values(
-    words: &mut [u64],
-    map: &AddressMap,
-    starts: &StartMap,
-    ordinary: &StartMap,
-    from: usize,
-    to: usize,
-) -> Result<(), usize>
+fn settle_values(words: &mut [u64], image: &ImageWords, from: usize, to: usize) -> Result<(), usize>
     ghost h: { Store }
-    requires leads { Follows h map.now starts.now words.old }
-    requires ordinary { HasOrdinary h ordinary.now }
+    requires image { Follows h image.now }
+    requires leads { Leads h words.old }
     requires order { from ≤ to }
     requires within { to ≤ length words.old }
     requires loose { (j : ℕ) → from ≤ j → j < to → IsLoose h j }
     ensures least { FindsLeast (λ j. (from ≤ j) × (j < to) × (is_good_word h (slice_index words.old j) ≡ false)) result }
     ensures same_len { length words.new ≡ length words.old }
-    ensures leads { Follows h map.now starts.now words.new }
+    ensures leads { Leads h words.new }
     ensures followed { OnOk result ((j : ℕ) → from ≤ j → j < to → slice_index words.new j ≡ settled_word h (slice_index words.old j)) }
     ensures before { (j : ℕ) → j < from → slice_index words.new j ≡ slice_index words.old j }
     ensures behind { (j : ℕ) → to ≤ j → slice_index words.new j ≡ slice_index words.old j }
 {
     'values: for j in from..to {
         let word = words[j];
-        match value_word(words, map, starts, ordinary, word) {
+        match value_word(words, image, word) {
             Some(value) => words[j] = value,
             None => return Err(j),
         }
@@ -68,41 +59,29 @@ fn settle_values(
 }
 
 /// Follows the words from `from` up to `to`. One that is no value becomes `nil`.
-fn settle_slots(
-    words: &mut [u64],
-    map: &AddressMap,
-    starts: &StartMap,
-    ordinary: &StartMap,
-    nil: usize,
-    from: usize,
-    to: usize,
-)
+fn settle_slots(words: &mut [u64], image: &ImageWords, from: usize, to: usize)
     ghost h: { Store }
-    requires leads { Follows h map.now starts.now words.old }
-    requires ordinary { HasOrdinary h ordinary.now }
-    requires nil { nil ≡ first h 0 }
+    requires image { Follows h image.now }
+    requires leads { Leads h words.old }
     requires order { from ≤ to }
     requires within { to ≤ length words.old }
     requires loose { (j : ℕ) → from ≤ j → j < to → IsLoose h j }
     ensures same_len { length words.new ≡ length words.old }
-    ensures leads { Follows h map.now starts.now words.new }
+    ensures leads { Leads h words.new }
     ensures followed { (j : ℕ) → from ≤ j → j < to → slice_index words.new j ≡ settled_word h (slice_index words.old j) }
     ensures before { (j : ℕ) → j < from → slice_index words.new j ≡ slice_index words.old j }
     ensures behind { (j : ℕ) → to ≤ j → slice_index words.new j ≡ slice_index words.old j }
 {
     'slots: for j in from..to {
         let word = words[j];
-        words[j] = settled_word(words, map, starts, ordinary, nil, word);
+        words[j] = settled_word(words, image, word);
     }
 }
 
 /// The same of the slots of the hidden roots, which are the words from `from` up to `to`.
-fn settle_roots(words: &mut [u64], map: &AddressMap, nil: usize, from: usize, to: usize)
+fn settle_roots(words: &mut [u64], image: &ImageWords, from: usize, to: usize)
     ghost h: { Store }
-    requires to { (w : ℕ) → h.to w ≡ word_in map.now 0 w }
-    requires below { (w s : ℕ) → h.to w ≡ Some s → s < 2 ^ 27 }
-    requires nil { nil ≡ first h 0 }
-    requires small { nil ≤ 2 ^ 27 }
+    requires image { Follows h image.now }
     requires order { from ≤ to }
     requires within { to ≤ length words.old }
     ensures same_len { length words.new ≡ length words.old }
@@ -111,7 +90,7 @@ fn settle_roots(words: &mut [u64], map: &AddressMap, nil: usize, from: usize, to
     ensures behind { (j : ℕ) → to ≤ j → slice_index words.new j ≡ slice_index words.old j }
 {
     'roots: for j in from..to {
-        words[j] = settled_root(map, nil, j - from, words[j]);
+        words[j] = settled_root(image, j - from, words[j]);
     }
 }
 
@@ -119,21 +98,19 @@ fn settle_roots(words: &mut [u64], map: &AddressMap, nil: usize, from: usize, to
 /// value.
 fn settle_object(
     words: &mut [u64],
-    map: &AddressMap,
-    starts: &StartMap,
-    ordinary: &StartMap,
+    image: &ImageWords,
     header: Header,
     span: Span,
 ) -> Result<(), usize>
     ghost h: { Store }
-    requires leads { Follows h map.now starts.now words.old }
-    requires ordinary { HasOrdinary h ordinary.now }
+    requires image { Follows h image.now }
+    requires leads { Leads h words.old }
     requires next { IsNext h words.old header.0 span.start span.slots }
     requires there { is_ordinary h span.start ≡ true }
     requires format { format_of header.0 ≢ 3 }
     ensures least { FindsLeast (IsBadPointerOf h span.start) result }
     ensures same_len { length words.new ≡ length words.old }
-    ensures leads { Follows h map.now starts.now words.new }
+    ensures leads { Leads h words.new }
     ensures slots { OnOk result ((j : ℕ) → span.start < j → j < span.start + 1 + span.slots
         → slice_index words.new j ≡ slot_in h span.start (h.cell span.start) (j - span.start - 1) (slice_index words.old j)) }
     ensures before { (j : ℕ) → j ≤ span.start → slice_index words.new j ≡ slice_index words.old j }
@@ -141,27 +118,18 @@ fn settle_object(
 {
     let from = span.start + 1;
     let to = from + header.pointer_slots(span.slots, words[from]);
-    settle_values(words, map, starts, ordinary, from, to)
+    settle_values(words, image, from, to)
 }
 
 /// Settles the slots of a chunk with this header, whatever it is. Those of free chunks and forwarders stay, and those of the free lists object, which
 /// has words that are no values; in every other pointer slot a word that is no value becomes `nil`.
-fn settle_any(
-    words: &mut [u64],
-    map: &AddressMap,
-    starts: &StartMap,
-    ordinary: &StartMap,
-    firsts: &[usize],
-    header: Header,
-    span: Span,
-)
+fn settle_any(words: &mut [u64], image: &ImageWords, header: Header, span: Span)
     ghost h: { Store }
-    requires leads { Follows h map.now starts.now words.old }
-    requires ordinary { HasOrdinary h ordinary.now }
-    requires firsts { AreFirsts h firsts.now }
+    requires image { Follows h image.now }
+    requires leads { Leads h words.old }
     requires next { IsNext h words.old header.0 span.start span.slots }
     ensures same_len { length words.new ≡ length words.old }
-    ensures leads { Follows h map.now starts.now words.new }
+    ensures leads { Leads h words.new }
     ensures slots { (j : ℕ) → span.start < j → j < span.start + 1 + span.slots
         → slice_index words.new j ≡ slot_in h span.start (h.cell span.start) (j - span.start - 1) (slice_index words.old j) }
     ensures before { (j : ℕ) → j ≤ span.start → slice_index words.new j ≡ slice_index words.old j }
@@ -171,13 +139,12 @@ fn settle_any(
     if class == FREE_CLASS || class == FORWARDER_CLASS {
         return;
     }
-    let nil = firsts[0];
     let from = span.start + 1;
-    if span.start == firsts[HIDDEN_ROOTS] {
-        settle_roots(words, map, nil, from, from + span.slots);
-    } else if span.start != firsts[FREE_LISTS] {
+    if span.start == image.roots.hidden_roots {
+        settle_roots(words, image, from, from + span.slots);
+    } else if span.start != image.roots.free_lists {
         let to = from + header.pointer_slots(span.slots, words[from]);
-        settle_slots(words, map, starts, ordinary, nil, from, to);
+        settle_slots(words, image, from, to);
     }
 }
 
@@ -192,50 +159,38 @@ fn wants_values(ordinary: &StartMap, start: usize, header: Header) -> bool
 /// Settles the slots of a chunk with this header. The error is the index of the first one's word that has no value and is to have one.
 fn settle_body(
     words: &mut [u64],
-    map: &AddressMap,
-    starts: &StartMap,
-    ordinary: &StartMap,
-    firsts: &[usize],
+    image: &ImageWords,
     header: Header,
     span: Span,
 ) -> Result<(), usize>
     ghost h: { Store }
-    requires leads { Follows h map.now starts.now words.old }
-    requires ordinary { HasOrdinary h ordinary.now }
-    requires firsts { AreFirsts h firsts.now }
+    requires image { Follows h image.now }
+    requires leads { Leads h words.old }
     requires next { IsNext h words.old header.0 span.start span.slots }
     ensures least { FindsLeast (IsBadPointerOf h span.start) result }
     ensures same_len { length words.new ≡ length words.old }
-    ensures leads { Follows h map.now starts.now words.new }
+    ensures leads { Leads h words.new }
     ensures slots { OnOk result ((j : ℕ) → span.start < j → j < span.start + 1 + span.slots
         → slice_index words.new j ≡ slot_in h span.start (h.cell span.start) (j - span.start - 1) (slice_index words.old j)) }
     ensures before { (j : ℕ) → j ≤ span.start → slice_index words.new j ≡ slice_index words.old j }
     ensures behind { (j : ℕ) → span.start + 1 + span.slots ≤ j → slice_index words.new j ≡ slice_index words.old j }
 {
-    if wants_values(ordinary, span.start, header) {
-        return settle_object(words, map, starts, ordinary, header, span);
+    if wants_values(image.ordinary, span.start, header) {
+        return settle_object(words, image, header, span);
     }
-    settle_any(words, map, starts, ordinary, firsts, header, span);
+    settle_any(words, image, header, span);
     Ok(())
 }
 
 /// Clears the header of a chunk and settles its slots. The error is the index of the first one's word that has no value and is to have one.
-pub(crate) fn settle_chunk(
-    words: &mut [u64],
-    map: &AddressMap,
-    starts: &StartMap,
-    ordinary: &StartMap,
-    firsts: &[usize],
-    span: Span,
-) -> Result<(), usize>
+pub(crate) fn settle_chunk(words: &mut [u64], image: &ImageWords, span: Span) -> Result<(), usize>
     ghost h: { Store }
-    requires leads { Follows h map.now starts.now words.old }
-    requires ordinary { HasOrdinary h ordinary.now }
-    requires firsts { AreFirsts h firsts.now }
+    requires image { Follows h image.now }
+    requires leads { Leads h words.old }
     requires next { IsNext h words.old (slice_index words.old span.start) span.start span.slots }
     ensures least { FindsLeast (IsBadPointerOf h span.start) result }
     ensures same_len { length words.new ≡ length words.old }
-    ensures leads { Follows h map.now starts.now words.new }
+    ensures leads { Leads h words.new }
     ensures header { fields_of (slice_index words.new span.start) ≡ unmarked (fields_of (slice_index words.old span.start)) }
     ensures unused { HasNoUnusedBits (slice_index words.new span.start) }
     ensures slots { OnOk result ((j : ℕ) → span.start < j → j < span.start + 1 + span.slots
@@ -245,5 +200,5 @@ pub(crate) fn settle_chunk(
 {
     let header = Header(words[span.start]);
     words[span.start] = cleared(header).0;
-    settle_body(words, map, starts, ordinary, firsts, header, span)
+    settle_body(words, image, header, span)
 }

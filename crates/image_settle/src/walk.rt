@@ -9,14 +9,15 @@ ghost use Rattle.object_header.specs.Chunks.{Chunk, Cuts, chunks};
 ghost use Rattle.spur_graph.specs.Cells.{Store, start_named};
 ghost use Rattle.spur_graph.specs.Heaps.{row_store, IsClear};
 ghost use Rattle.heap_cells.specs.Settled.{IsSettled, word_of};
-ghost use Rattle.image_references.specs.References.{IsBadPointer};
+ghost use Rattle.image_words.specs.References.{IsBadPointer};
 ghost use Rattle.image_settle.specs.Settles.{IsReady, IsCleared, IsTurned, HaveNoForwarder};
 ghost use Rattle.spur_graph.specs.FileStores.{file_store};
 
 use crate::object::settle_chunk;
 use crate::word::word_of;
 use heap_segments::AddressMap;
-use heap_walk::{StartMap, span_of};
+use heap_walk::span_of;
+use image_words::ImageWords;
 use object_header::{FORWARDER_CLASS, Header};
 
 /// Whether this header is that of a forwarder, or one was found before.
@@ -28,16 +29,10 @@ fn is_found(found: bool, header: Header) -> bool
 
 /// Clears the headers and settles the slots of all chunks, and answers whether there are forwarders. Their words stay addresses. The error is that of
 /// [`settle`].
-fn settle_chunks(
-    words: &mut [u64],
-    map: &AddressMap,
-    starts: &StartMap,
-    ordinary: &StartMap,
-    firsts: &[usize],
-) -> Result<bool, usize>
+fn settle_chunks(words: &mut [u64], image: &ImageWords) -> Result<bool, usize>
     ghost h: { Store }
-    requires ready { IsReady map.now starts.now ordinary.now firsts.now words.old }
-    requires store { h ≡ file_store map.now words.old }
+    requires ready { IsReady image.now words.old }
+    requires store { h ≡ file_store image.now.map.now words.old }
     ensures least { FindsLeast (IsBadPointer h) result }
     ensures same_len { length words.new ≡ length words.old }
     ensures cleared { OnOk result ((c : Chunk) → Contains (chunks words.old) c → (j : ℕ) → c.at ≤ j → j < c.at + c.size
@@ -49,7 +44,7 @@ fn settle_chunks(
     'chunks: while at < words.len() {
         let span = span_of(at, words[at]);
         found = is_found(found, Header(words[span.start]));
-        match settle_chunk(words, map, starts, ordinary, firsts, span) {
+        match settle_chunk(words, image, span) {
             Ok(()) => {}
             Err(slot) => return Err(slot),
         }
@@ -107,31 +102,24 @@ fn turn_found(words: &mut [u64], map: &AddressMap, found: bool)
 }
 
 /// Turns the words of an image whose chunks, forwarders and class table have passed the checks into those of a heap, and tests each pointer slot of
-/// each ordinary object of another format than 3 on the way. `starts` has the starts of its objects and forwarders, `ordinary` those of its ordinary
-/// objects, and `firsts` those of the first five chunks. The error is the index of the first such slot's word that has no value, by the order of the
+/// each ordinary object of another format than 3 on the way. The error is the index of the first such slot's word that has no value, by the order of the
 /// words; some of them are turned then, and others not.
 ///
 /// Headers lose what collections leave in them, and the two bits of no field. Pointer slots are followed, and have `nil` where they have no value;
 /// those of the hidden roots name pages, or `nil` behind them. Forwarders go on naming the same object. All other words stay.
-pub fn settle(
-    words: &mut [u64],
-    map: &AddressMap,
-    starts: &StartMap,
-    ordinary: &StartMap,
-    firsts: &[usize],
-) -> Result<(), usize>
-    requires { IsReady map.now starts.now ordinary.now firsts.now words.old }
-    ensures least { FindsLeast (IsBadPointer (file_store map.now words.old)) result }
+pub fn settle(words: &mut [u64], image: &ImageWords) -> Result<(), usize>
+    requires { IsReady image.now words.old }
+    ensures least { FindsLeast (IsBadPointer (file_store image.now.map.now words.old)) result }
     ensures same_len { length words.new ≡ length words.old }
-    ensures settled { OnOk result (IsSettled (file_store map.now words.old) (row_store words.new)) }
+    ensures settled { OnOk result (IsSettled (file_store image.now.map.now words.old) (row_store words.new)) }
     ensures cut { OnOk result (Cuts words.new 0 (length words.new) (chunks words.new)) }
     ensures chunks { OnOk result (chunks words.new ≡ chunks words.old) }
     ensures clear { OnOk result (All (λ (c : Chunk). IsClear (slice_index words.new c.start)) (chunks words.new)) }
 {
-    let found = match settle_chunks(words, map, starts, ordinary, firsts) {
+    let found = match settle_chunks(words, image) {
         Ok(found) => found,
         Err(slot) => return Err(slot),
     };
-    turn_found(words, map, found);
+    turn_found(words, image.map, found);
     Ok(())
 }

@@ -22,6 +22,7 @@ use Rattle.marker.specs.Firing.{NilsBelow, Rounded}
 use Rattle.marker.specs.Followed.{AreFollowed}
 use Rattle.marker.specs.Marked.{AreInternalMarked}
 use Rattle.marker.specs.Visits.{AreBare}
+use Rattle.spur_heap.proofs.FollowedWords.{follows_same}
 use Rattle.marker.proofs.FollowedHeaps.{follows_bare, follows_internal, follows_marks}
 use Rattle.marker.proofs.MournersKept.{mourners_kept}
 use Rattle.marker.proofs.NilledHeaps.{nils_long}
@@ -110,3 +111,11 @@ module _ (v : View) (marked : IsMarkedWhole v) (fired : ℕ) (b : View) (r : Rou
         ∙ ap (λ (u : View). record u { words = e.words; special = e.special; handles = e.handles; mourners = e.mourners }) n.stays.rest
         ∙ ap (λ (u : View). record u { words = e.words; special = e.special; handles = e.handles; mourners = e.mourners }) r.rest;
   }
+
+-- where nothing fired and no slot became nil, all stands as it did
+pub finishes_idle : (v : View) → IsMarkedWhole v → (fired : ℕ) (b : View) → Rounded v fired b → IsWhole b → (nilled : ℕ) (c : View) → NilsBelow (length b.words) b c → nilled ≡ nils (marks b) (heap_graph b) → IsWhole c
+    → fired ≡ 0 → c ≡ b → Finishes v nilled fired c
+finishes_idle v marked fired b r whole_b nilled c n count whole_c none same =
+    let was : c ≡ v = same ∙ r.idle none in
+    let internal : MarksThose (is_internal (store c)) c c = record { rest = refl; store = refl; graph = refl; room = refl; inner = subst (λ (u : View). AreInternalMarked u) (sym was) marked.through.inner; others = λ s e. refl } in
+    finishes v marked fired b r whole_b nilled c n count whole_c c internal c (follows_same c) (subst (λ (u : View). AreFollowed u) (sym was) marked.through.followed) whole_c

@@ -1,7 +1,6 @@
--- A group fires: what was live is live, and the marking goes on with the group on the stack.
-use Rattle.std.proofs.Common.{◌≡◌, ◌⊎◌, ℕ, Bool, true, false, cond, ◌==◌, List, [], take, length, refl, sym, ap, ◌∙◌, subst, inl, inr, arith, Some, None, Option}
+-- A group fires: what was live is live, and a marking goes on where the group stands on the stack.
+use Rattle.std.proofs.Common.{◌≡◌, ◌⊎◌, ℕ, Bool, true, false, cond, ◌==◌, List, [], take, length, refl, sym, ap, ◌∙◌, subst, inl, inr, Some, None, Option}
 use Rattle.std.proofs.lemmas.Bool.{false≢true, cases_Bool}
-use Rattle.std.proofs.lemmas.List.{length-take, get_or-take}
 use Rattle.std.proofs.lemmas.List.Elements.{Contains-append_left, Contains-append_cases}
 use Rattle.std.proofs.Math.Seq.{take-length}
 use Rattle.std.specs.Prelude.{slice_get}
@@ -12,27 +11,13 @@ use Rattle.spur_graph.specs.declared.answer.Value.{Value}
 use Rattle.spur_graph.specs.declared.answer.Value.TheVariants.{Int, Char, Float, Ref}
 use Rattle.spur_graph.specs.Node.{Node}
 use Rattle.spur_graph.specs.Graph.{Graph, node, blank}
-use Rattle.spur_graph.specs.Live.{Live, none, fixed_in, fixed_of, is_keyed, strong_count, strong_values, IsRoot, HandleNames, Mourns, SpecialNames, EntryNames, IsNil, IsFalse, IsTrue, Reached, AtRoot, AtGiven, ByStrong, ByLoose, ByKey}
-use Rattle.spur_graph.specs.Rounds.{Decides, mourning, fire}
-use Rattle.spur_graph.proofs.Reaching.{live_by_rules}
+use Rattle.spur_graph.specs.Live.{none, fixed_in, fixed_of, is_keyed, strong_values, IsRoot, HandleNames, Mourns, SpecialNames, EntryNames, IsNil, IsFalse, IsTrue, Reached, AtRoot, AtGiven, ByStrong, ByLoose, ByKey}
+use Rattle.spur_graph.specs.Rounds.{mourning, fire}
 use Rattle.graph_laws.proofs.CollectedNames.{get-fired, mourning-pointers, waiting-fired}
 use Rattle.graph_laws.proofs.Forms.{from_group}
 use Rattle.graph_laws.proofs.Redirected.{came_from}
-use Rattle.marker.specs.Marks.{Marking}
-
--- ---- the strong values are among all
-
-in_take : (k : ℕ) (vs : List Value) (v : Value) → Contains (take k vs) v → Contains vs v
-in_take k vs v (i, l, e) =
-    let m = length-take k vs in
-    (i, omega (arith, l, m), sym (get_or-take k vs i v (omega (arith, l, m))) ∙ e)
-
-strong_among : (g : Graph) (n : Node) (v : Value) → Contains (strong_values g n) v → Contains n.pointers v
-strong_among g n v = by (is_keyed n)
-  where
-    by : (b : Bool) → Contains (cond b [] (take (strong_count g n) n.pointers)) v → Contains n.pointers v
-    by true c = absurd (omega (arith, c.1))
-    by false c = in_take (strong_count g n) n.pointers v c
+use Rattle.marker.specs.Waiting.{Progress}
+use Rattle.marker.proofs.Steps.{counted_among, strong_counted}
 
 -- ---- the graph
 
@@ -95,7 +80,7 @@ module _ (g : Graph) (group : List ℕ) where
   reached_fired _ (AtRoot a root) = AtRoot a (root_fired a root)
   reached_fired _ (AtGiven a is) = absurd (false≢true is)
   reached_fired _ (ByStrong b a n live speaks there value) = elim (cases_Bool (list_any (λ c. c == b) group)) [
-    | inl on ↦ by_mourner b a n (reached_fired b live) there on (strong_among g n (Ref a) value)
+    | inl on ↦ by_mourner b a n (reached_fired b live) there on (counted_among g n (Ref a) (strong_counted g n (Ref a) value))
     | inr off ↦ ByStrong b a n (reached_fired b live) refl (there_other b n there off) (subst (λ (vs : List Value). Contains vs (Ref a)) (sym (strong_fired n)) value)
   ]
   reached_fired _ (ByLoose b a n key live speaks there keyed first loose value) = elim (cases_Bool (list_any (λ c. c == b) group)) [
@@ -107,21 +92,26 @@ module _ (g : Graph) (group : List ℕ) where
     | inr off ↦ ByKey b c a n (reached_fired b live) refl (there_other b n there off) keyed first (reached_fired c also) value
   ]
 
-  -- where exactly what was live is marked, the marking goes on with the group on the stack
-  pub marking_fired : (m : ℕ → Bool) → Decides m (Live g none) → ((a : ℕ) → Contains group a → m a ≡ true) → Marking G none m group
-  marking_fired m exact all = record {
-    rooted = λ a root. elim (root_was a root) [ inl was ↦ exact.whole a ((live_by_rules g none none a).1 (AtRoot a was)) | inr new ↦ all a new ];
-    sound = λ a on. reached_fired a (reached a on);
-    stacked = all;
-    done = λ s a n on speaks there value. elim (cases_Bool (list_any (λ b. b == s) group)) [
-      | inl among ↦ inl (from_group group s among)
-      | inr off ↦
-          let was = came_from (mourning group s) (get g.nodes s) n (sym (get-fired g group s) ∙ there) in
-          let same : was.0 ≡ n = sym (ap (λ b. cond b (record was.0 { format = 1 }) was.0) off) ∙ was.2 in
-          let strong : Contains (strong_values g n) (Ref a) = subst (λ (vs : List Value). Contains vs (Ref a)) (strong_fired n) value in
-          inr (exact.whole a ((live_by_rules g none none a).1 (ByStrong s a n (reached s on) refl (was.1 ∙ ap Some same) strong)))
+  -- so a marking goes on where the group stands on the stack
+  pub progress_fired : (m : ℕ → Bool) (stack : List ℕ) → ((a : ℕ) → Contains group a → Contains stack a) → Progress g none m stack → Progress G none m stack
+  progress_fired m stack stands k = record {
+    marking = record {
+      rooted = λ a root. elim (root_was a root) [ inl was ↦ k.marking.rooted a was | inr new ↦ k.marking.stacked a (stands a new) ];
+      sound = λ a on. reached_fired a (k.marking.sound a on);
+      stacked = k.marking.stacked;
+      done = λ s a n on speaks there value. elim (cases_Bool (list_any (λ b. b == s) group)) [
+        | inl among ↦ inl (stands s (from_group group s among))
+        | inr off ↦ k.marking.done s a n on speaks (there_was s n there off) (subst (λ (vs : List Value). Contains vs (Ref a)) (strong_fired n) value)
+      ];
+    };
+    keyed = λ s a n on speaks there is value. elim (cases_Bool (list_any (λ b. b == s) group)) [
+      | inl among ↦ inl (stands s (from_group group s among))
+      | inr off ↦ k.keyed s a n on speaks (there_was s n there off) is value
     ];
   }
     where
-      reached : (a : ℕ) → m a ≡ true → Reached g none none a
-      reached a on = (live_by_rules g none none a).0 (exact.sound a on)
+      there_was : (s : ℕ) (n : Node) → get G.nodes s ≡ Some n → list_any (λ b. b == s) group ≡ false → get g.nodes s ≡ Some n
+      there_was s n there off =
+          let was = came_from (mourning group s) (get g.nodes s) n (sym (get-fired g group s) ∙ there) in
+          let same : was.0 ≡ n = sym (ap (λ b. cond b (record was.0 { format = 1 }) was.0) off) ∙ was.2 in
+          was.1 ∙ ap Some same

@@ -1,29 +1,25 @@
--- Ephemerons fire one after another, in a walk over the starts of a heap.
-use Rattle.std.proofs.Common.{◌≡◌, ◌≢◌, ℕ, true, false, cond, ◌==◌, ◌&&◌, ◌+◌, ◌<◌, ◌≤◌, ◌/◌, List, [], ◌∷◌, ◌++◌, length, length-append, get_or, refl, sym, ap, ◌∙◌, subst, inl, inr, arith}
-use Rattle.std.proofs.lemmas.Bool.{cases_lt, and_parts, ne_eqb, false_from_ne_true}
-use Rattle.std.proofs.lemmas.List.Elements.{Contains-get_or, Contains-push_cases}
+-- Ephemerons fire one after another, in the order of the mark stack.
+use Rattle.std.proofs.Common.{◌≡◌, ◌≢◌, ℕ, Bool, true, false, cond, ◌==◌, ◌||◌, ◌&&◌, ◌+◌, ◌<◌, List, [], ◌∷◌, ◌++◌, length, length-append, refl, sym, ap, ◌∙◌, subst, inl, inr, arith}
+use Rattle.std.proofs.lemmas.Bool.{false≢true, cases_Bool, cases_eq, eq-eqb, eqb-false, ne_eqb, false_from_ne_true}
+use Rattle.std.proofs.lemmas.List.Elements.{Contains-append_left, Contains-get_or, Contains-push, Contains-push_cases}
+use Rattle.std.proofs.lemmas.List.Folds.{list_any-append}
 use Rattle.std.proofs.lemmas.List.Quantifiers.{all_pairs_push}
-use Rattle.std.specs.Prelude.{slice_index_or}
+use Rattle.std.specs.Prelude.{slice_index, slice_index_or}
 use Rattle.std.specs.List.{Contains, list_any}
-use Rattle.spur_graph.specs.Graph.{Graph, AreApart}
+use Rattle.spur_graph.specs.Node.{Node}
+use Rattle.spur_graph.specs.Graph.{Graph}
 use Rattle.spur_graph.specs.Live.{is_keyed}
 use Rattle.spur_graph.specs.Rounds.{mourning, names_dead}
-use Rattle.spur_graph.specs.Ordinary.{is_ordinary}
-use Rattle.spur_graph.specs.Heaps.{View, IsWhole, heap_graph, is_marked}
-use Rattle.heap_cells.proofs.CellKinds.{there_starts}
-use Rattle.heap_cells.proofs.References.{ordinary_there}
-use Rattle.graph_laws.proofs.Forms.{from_group}
-use Rattle.spur_heap.specs.MarkBits.{StartsAt, marks}
+use Rattle.spur_graph.specs.Heaps.{View, heap_graph}
+use Rattle.graph_laws.proofs.Forms.{from_group, in_group}
+use Rattle.spur_heap.specs.MarkBits.{marks}
 use Rattle.spur_heap.specs.Mourning.{added, extended}
-use Rattle.spur_heap.specs.Views.{IsOrdinary, node_in, store}
-use Rattle.spur_heap.proofs.FewMourners.{few_apart}
-use Rattle.spur_heap.proofs.Puts.{whole_sound}
-use Rattle.spur_heap.proofs.Starting.{start_below}
-use Rattle.weak_ephemeron.specs.Stays.{Stays}
-use Rattle.weak_ephemeron.specs.Steps.{slot_value}
+use Rattle.spur_heap.specs.Views.{node_in}
+use Rattle.weak_ephemeron.specs.Steps.{FiresOne, slot_value}
 use Rattle.weak_ephemeron.proofs.Nilling.{stays_dead}
-use Rattle.weak_ephemeron.proofs.Staying.{stays_marks, stays_same}
-use Rattle.marker.specs.Firing.{FiresBelow, behind, dies}
+use Rattle.weak_ephemeron.proofs.Staying.{stays_marks, stays_same, stays_then}
+use Rattle.marker.specs.Firing.{FiresFirst, behind}
+use Rattle.marker.specs.Waiting.{waits}
 use Rattle.marker.proofs.Steps.{none-in-nil}
 
 -- ---- groups
@@ -46,93 +42,149 @@ some_behind groups (a ∷ group) some = refl
 pub push_some : {X : Type 0} (xs : List X) (x : X) → xs ++ x ∷ [] ≢ []
 push_some xs x e = let l = ap (λ ys. length ys) e in omega (arith, l, length-append xs (x ∷ []))
 
--- ---- the stack is another
+-- ---- a stack so far
 
-pub restacked : (stack : List ℕ) {a b : View} → Stays a b → Stays (record a { stack = stack }) (record b { stack = stack })
-restacked stack k = record {
-  graph = k.graph;
-  room = k.room;
-  values = k.values;
-  goods = k.goods;
-  ordinary = k.ordinary;
-  objects = k.objects;
-  forwarders = k.forwarders;
-  starts = k.starts;
-  marks = k.marks;
-  rest = ap (λ (v : View). record v { stack = stack }) k.rest;
-}
-
--- ---- what dies
-
-pub dies_parts : (v : View) (s : ℕ) → dies v s ≡ true → (marks v s ≡ true) × (is_keyed (node_in v s) ≡ true) × (names_dead (marks v) (slot_value v s 0) ≡ true)
-dies_parts v s on =
-    let one = and_parts (marks v s) (is_keyed (node_in v s) && names_dead (marks v) (slot_value v s 0)) on in
-    let two = and_parts (is_keyed (node_in v s)) (names_dead (marks v) (slot_value v s 0)) one.1 in
-    (one.0, two.0, two.1)
-
-pub dies_ordinary : (v : View) (s : ℕ) → dies v s ≡ true → IsOrdinary v s
-dies_ordinary v s on = (and_parts (is_ordinary (store v) s) (is_marked v.words s) (dies_parts v s on).0).0
-
--- ---- a walk so far
-
-pub below_none : (v : View) → v.stack ≡ [] → FiresBelow 0 v v
-below_none v empty = record {
+pub fires_none : (v : View) → FiresFirst 0 v 0 v
+fires_none v = record {
+  group = [];
+  count = refl;
   stays = stays_same v;
-  nodes = λ t. sym (ap (λ (ss : List ℕ). mourning ss t (node_in v t)) empty);
-  mourners = sym (ap (behind (heap_graph v).mourners) empty);
-  table = sym (ap (behind v.mourners) empty);
-  only = λ t c. absurd (none-in-nil t (subst (λ (ss : List ℕ). Contains ss t) empty c));
-  all = λ t l on. absurd (omega (arith, l));
-  apart = subst (λ (ss : List ℕ). AreApart ss) (sym empty) (λ i j d l m. absurd (omega (arith, m)));
+  nodes = λ t. refl;
+  mourners = refl;
+  table = refl;
+  only = λ t c. absurd (none-in-nil t c);
+  all = λ k l on. absurd (omega (arith, l));
+  apart = λ i j d l m. absurd (omega (arith, m));
   idle = λ e. refl;
 }
 
-module _ (i : ℕ) (a b : View) (x : FiresBelow i a b) where
-  pub below_long : length b.words ≡ length a.words
-  below_long = ap (λ (g : Graph). g.next) x.stays.graph
+module _ (i : ℕ) (a : View) (fired : ℕ) (b : View) (x : FiresFirst i a fired b) where
+  pub fires_long : length b.words ≡ length a.words
+  fires_long = ap (λ (g : Graph). g.next) x.stays.graph
 
-  pub below_marks : (t : ℕ) → marks b t ≡ marks a t
-  below_marks t = stays_marks x.stays t
+  pub fires_marks : (t : ℕ) → marks b t ≡ marks a t
+  fires_marks t = stays_marks x.stays t
 
-  pub below_some : b.stack ≢ [] → b.mourners ≢ []
-  below_some some none = push_some a.mourners b.stack (sym (x.table ∙ some_behind a.mourners b.stack some) ∙ none)
+  pub fires_stack : b.stack ≡ a.stack
+  fires_stack = ap (λ (v : View). v.stack) x.stays.rest
 
-  -- an object that is still to come is not among them
-  outside : (s : ℕ) → i ≤ s → list_any (λ t. t == s) b.stack ≡ false
-  outside s from = false_from_ne_true _ (λ on. let l = (x.only s (from_group b.stack s on)).0 in omega (arith, l, from))
+  -- some have fired, so that there is a group
+  pub fires_some : (fired == 0) ≡ false → b.mourners ≢ []
+  fires_some off none =
+      let some : x.group ≢ [] = λ e. let l = ap (λ (names : List ℕ). length names) e in eqb-false fired 0 off (x.count ∙ l) in
+      push_some a.mourners x.group (sym (x.table ∙ some_behind a.mourners x.group some) ∙ none)
 
-  pub node_to_come : (s : ℕ) → i ≤ s → node_in b s ≡ node_in a s
-  node_to_come s from = x.nodes s ∙ ap (λ o. cond o (record (node_in a s) { format = 1 }) (node_in a s)) (outside s from)
+  -- what has fired does not wait, and of the others those do that did
+  waits_fired : (s : ℕ) → list_any (λ t. t == s) x.group ≡ true → waits b s ≡ false
+  waits_fired s on =
+      let node : node_in b s ≡ record (node_in a s) { format = 1 } = x.nodes s ∙ ap (λ o. cond o (record (node_in a s) { format = 1 }) (node_in a s)) on in
+      ap (λ n. is_keyed n && names_dead (marks b) (slot_value b s 0)) node
 
-  pub dies_to_come : (s : ℕ) → i ≤ s → dies b s ≡ dies a s
-  dies_to_come s from =
-      let slot : slot_value b s 0 ≡ slot_value a s 0 = λ y. slice_index_or (node_to_come s from y).pointers 0 (x.stays.values 0 y) in
+  node_other : (s : ℕ) → list_any (λ t. t == s) x.group ≡ false → node_in b s ≡ node_in a s
+  node_other s off = x.nodes s ∙ ap (λ o. cond o (record (node_in a s) { format = 1 }) (node_in a s)) off
+
+  waits_other : (s : ℕ) → list_any (λ t. t == s) x.group ≡ false → waits b s ≡ waits a s
+  waits_other s off =
+      let slot : slot_value b s 0 ≡ slot_value a s 0 = λ y. slice_index_or (node_other s off y).pointers 0 (x.stays.values 0 y) in
       let dead : names_dead (marks b) (slot_value b s 0) ≡ names_dead (marks a) (slot_value a s 0) = ap (names_dead (marks b)) slot ∙ stays_dead x.stays (slot_value a s 0) in
-      λ y. below_marks s y && (is_keyed (node_to_come s from y) && dead y)
+      λ y. is_keyed (node_other s off y) && dead y
 
-  pub marked_starts : (t : ℕ) → dies a t ≡ true → StartsAt b t
-  marked_starts t on = there_starts ((store b).cell t) (ordinary_there (store b) t (x.stays.ordinary t ∙ dies_ordinary a t on))
+  -- ---- one start more
 
-  pub dying_below : IsWhole b → (t : ℕ) → dies a t ≡ true → t < length a.words
-  dying_below whole t on = subst (λ n. t < n) below_long (start_below b whole t (marked_starts t on))
+  module _ (s : ℕ) (is : s ≡ slice_index a.stack i) (there : i < length a.stack) where
+    fires_skipped : waits b s ≡ false → FiresFirst (i + 1) a fired b
+    fires_skipped off = record {
+      group = x.group;
+      count = x.count;
+      stays = x.stays;
+      nodes = x.nodes;
+      mourners = x.mourners;
+      table = x.table;
+      only = x.only;
+      all = λ k l on. elim (cases_eq k i) [
+        | inr n ↦ x.all k (omega (arith, l, n)) on
+        | inl e ↦
+            let here : slice_index a.stack k ≡ s = ap (slice_index a.stack) e ∙ sym is in
+            elim (cases_Bool (list_any (λ t. t == s) x.group)) [
+              | inl among ↦ subst (Contains x.group) (sym here) (from_group x.group s among)
+              | inr apart ↦ absurd (false≢true (sym off ∙ waits_other s apart ∙ ap (waits a) (sym here) ∙ on))
+            ]
+      ];
+      apart = x.apart;
+      idle = x.idle;
+    }
 
-  pub pushed : (s : ℕ) → i ≤ s → AreApart (b.stack ++ s ∷ [])
-  pushed s from = all_pairs_push (λ t u. t ≢ u) b.stack s x.apart (λ k d l e. let low = (x.only (get_or b.stack k d) (Contains-get_or b.stack k d l)).0 in omega (arith, low, from, e))
+    module _ (on : waits b s ≡ true) (c : View) (y : FiresOne s (fired == 0) b c) where
+      abbrev group : List ℕ
+      group = x.group ++ s ∷ []
 
-  -- so the stack has room for one more
-  pub below_room : IsWhole b → (s : ℕ) → i ≤ s → dies b s ≡ true → length b.stack < length b.words / 2
-  below_room whole s from on =
-      let few = few_apart b (whole_sound b whole) (b.stack ++ s ∷ []) (pushed s from) (λ k d l. ordinary (get_or (b.stack ++ s ∷ []) k d) (Contains-get_or (b.stack ++ s ∷ []) k d l)) in
-      omega (arith, few, length-append b.stack (s ∷ []))
-    where
-      ordinary : (t : ℕ) → Contains (b.stack ++ s ∷ []) t → IsOrdinary b t
-      ordinary t c = elim (Contains-push_cases b.stack s t c) [
-        | inl was ↦ x.stays.ordinary t ∙ dies_ordinary a t (x.only t was).1
-        | inr new ↦ subst (λ u. IsOrdinary b u) new (dies_ordinary b s on)
+      outside : list_any (λ t. t == s) x.group ≡ false
+      outside = false_from_ne_true _ (λ among. false≢true (sym (waits_fired s among) ∙ on))
+
+      in_grown : (t : ℕ) → list_any (λ u. u == t) group ≡ (list_any (λ u. u == t) x.group || (s == t || false))
+      in_grown t = list_any-append (λ u. u == t) x.group (s ∷ [])
+
+      either : (p q : Bool) → q ≡ false → (p || (q || false)) ≡ p
+      either true q e = refl
+      either false true e = e
+      either false false e = refl
+
+      last : (p q : Bool) → q ≡ true → (p || (q || false)) ≡ true
+      last true q e = refl
+      last false true e = refl
+      last false false e = e
+
+      other_then : (t : ℕ) → t ≢ s → list_any (λ u. u == t) group ≡ list_any (λ u. u == t) x.group
+      other_then t n = in_grown t ∙ either (list_any (λ u. u == t) x.group) (s == t) (ne_eqb s t (λ e. n (sym e)))
+
+      here_then : list_any (λ u. u == s) group ≡ true
+      here_then = in_grown s ∙ last (list_any (λ u. u == s) x.group) (s == s) (eq-eqb s s refl)
+
+      abbrev mourner : Node → Node
+      mourner n = record n { format = 1 }
+
+      nodes_then : (t : ℕ) → node_in c t ≡ mourning group t (node_in a t)
+      nodes_then t = y.nodes t ∙ elim (cases_eq t s) [
+        | inl e ↦
+            ap (λ o. cond o (mourner (node_in b s)) (node_in b t)) (eq-eqb t s e)
+            ∙ ap mourner (node_other s outside)
+            ∙ sym (ap (λ o. cond o (mourner (node_in a s)) (node_in a s)) here_then)
+            ∙ ap (λ u. mourning group u (node_in a u)) (sym e)
+        | inr n ↦
+            ap (λ o. cond o (mourner (node_in b s)) (node_in b t)) (ne_eqb t s n)
+            ∙ x.nodes t
+            ∙ sym (ap (λ o. cond o (mourner (node_in a t)) (node_in a t)) (other_then t n))
       ]
 
-  pub below_all : (j : ℕ) → ((t : ℕ) → i ≤ t → StartsAt b t → ⊥) → (t : ℕ) → t < j → dies a t ≡ true → Contains b.stack t
-  below_all j gap t l on = elim (cases_lt t i) [
-    | inl low ↦ x.all t low on
-    | inr high ↦ absurd (gap t high (marked_starts t on))
-  ]
+      first : (fired == 0) ≡ (length x.group == 0)
+      first = ap (λ n. n == 0) x.count
+
+      fires_fired : FiresFirst (i + 1) a (fired + 1) c
+      fires_fired = record {
+        group = group;
+        count = let n = x.count in omega (arith, n, length-append x.group (s ∷ []));
+        stays = stays_then x.stays y.stays;
+        nodes = nodes_then;
+        mourners = y.mourners ∙ ap (λ gs. added gs s (fired == 0)) x.mourners ∙ ap (added (behind (heap_graph a).mourners x.group) s) first ∙ added_behind (heap_graph a).mourners x.group s;
+        table = y.table ∙ ap (λ gs. added gs s (fired == 0)) x.table ∙ ap (added (behind a.mourners x.group) s) first ∙ added_behind a.mourners x.group s;
+        only = λ t k. elim (Contains-push_cases x.group s t k) [
+          | inl was ↦ x.only t was
+          | inr new ↦ (subst (Contains a.stack) (sym is ∙ new) (Contains-get_or a.stack i 0 there), ap (waits a) (sym new) ∙ sym (waits_other s outside) ∙ on)
+        ];
+        all = λ k l w. elim (cases_eq k i) [
+          | inl e ↦ subst (Contains group) (is ∙ ap (slice_index a.stack) (sym e)) (Contains-push x.group s)
+          | inr n ↦ Contains-append_left x.group (s ∷ []) (slice_index a.stack k) (x.all k (omega (arith, l, n)) w)
+        ];
+        apart = all_pairs_push (λ t u. t ≢ u) x.group s x.apart (λ k d l e. false≢true (sym outside ∙ in_group x.group s (subst (Contains x.group) e (Contains-get_or x.group k d l))));
+        idle = λ e. absurd (push_some x.group s e);
+      }
+
+    -- one or the other
+    pub fires_more : (n : ℕ) (c : View) → (waits b s ≡ false → c ≡ b) → (waits b s ≡ true → FiresOne s (fired == 0) b c) → n ≡ cond (waits b s) 1 0 → FiresFirst (i + 1) a (fired + n) c
+    fires_more n c skips fires count = elim (cases_Bool (waits b s)) [
+      | inl on ↦ let one : n ≡ 1 = count ∙ ap (λ o. cond o 1 0) on in subst (λ m. FiresFirst (i + 1) a (fired + m) c) (sym one) (fires_fired on c (fires on))
+      | inr off ↦
+          let none : n ≡ 0 = count ∙ ap (λ o. cond o 1 0) off in
+          let sum : fired ≡ fired + n = omega (arith, none) in
+          subst (λ m. FiresFirst (i + 1) a m c) sum (subst (λ (v : View). FiresFirst (i + 1) a fired v) (sym (skips off)) (fires_skipped off))
+    ]

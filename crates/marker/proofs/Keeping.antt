@@ -1,5 +1,5 @@
 -- What a marking keeps: the heap but for mark bits and the stack, and how many objects are not marked.
-use Rattle.std.proofs.Common.{◌≡◌, ℕ, Bool, true, false, ◌+◌, ◌≤◌, List, [], ◌∷◌, length, refl, sym, ap, ◌∙◌, subst, inl, inr, arith}
+use Rattle.std.proofs.Common.{◌≡◌, ℕ, Bool, true, false, ◌+◌, ◌<◌, ◌≤◌, List, [], ◌∷◌, length, refl, sym, ap, ◌∙◌, subst, inl, inr, arith}
 use Rattle.std.proofs.lemmas.Bool.{cases_Bool, cases_eq, and_right}
 use Rattle.spur_graph.specs.Cells.{Store, is_moved, is_there}
 use Rattle.spur_graph.specs.Ordinary.{body_at, is_ordinary, is_good_word, ordinary_starts}
@@ -10,9 +10,11 @@ use Rattle.heap_cells.proofs.CellKinds.{there_starts}
 use Rattle.heap_cells.proofs.Members.{In, in_list, in_filter}
 use Rattle.heap_cells.proofs.References.{ordinary_there}
 use Rattle.spur_heap.specs.MarkBits.{marks}
+use Rattle.spur_heap.specs.Words.{body_in}
 use Rattle.spur_heap.specs.Views.{IsOrdinary, node_in, store}
 use Rattle.spur_heap.proofs.Hops.{start_at}
 use Rattle.spur_heap.proofs.Puts.{whole_sound}
+use Rattle.spur_heap.proofs.Starting.{start_below}
 use Rattle.marker.specs.Visits.{left, unmarked, MarksOnly, Keeps}
 
 -- ---- the same heap
@@ -114,7 +116,16 @@ one_left m m' keeps s off on (x ∷ xs) k =
           ]
     ]
 
--- an ordinary object is one of the ordinary starts
+-- an object has the format of its header
+pub node_format : (v : View) (s : ℕ) → (node_in v s).format ≡ (body_in v s).format
+unfolding node_of
+node_format v s = refl
+
+-- an ordinary object starts at a word
+pub ordinary_below : (v : View) → IsWhole v → (s : ℕ) → IsOrdinary v s → s < length v.words
+ordinary_below v whole s there = start_below v whole s (there_starts ((store v).cell s) (ordinary_there (store v) s there))
+
+-- it is one of the ordinary starts
 pub among_ordinary : (v : View) → IsWhole v → (s : ℕ) → IsOrdinary v s → In (ordinary_starts (store v)) s
 unfolding ordinary_starts
 among_ordinary v whole s there =

@@ -14,9 +14,10 @@ use Rattle.spur_heap.specs.Following.{Follows}
 use Rattle.spur_heap.specs.MarkBits.{begun, marked, marks}
 use Rattle.spur_heap.specs.Views.{IsOrdinary, store}
 use Rattle.marker.specs.Marked.{AreInternalMarked, IsFound, MarksOne, excepted}
-use Rattle.marker.specs.Marks.{Marking, silent_of}
+use Rattle.marker.specs.Marks.{silent_of}
+use Rattle.marker.specs.Waiting.{Progress}
 use Rattle.marker.specs.Visits.{AreBare, Keeps, MarksOnly, Visits, Works}
-use Rattle.marker.proofs.Keeping.{keeps_all, keeps_same, keeps_then, keeps_words, same_moved, same_ordinary}
+use Rattle.marker.proofs.Keeping.{keeps_all, keeps_same, keeps_stacked, keeps_then, keeps_words, same_moved, same_ordinary}
 use Rattle.marker.proofs.Visiting.{no_forwarder}
 use Rattle.marker.proofs.Rooting.{NoneMarked, none_marked_first, rooted}
 use Rattle.marker.proofs.FollowedHeaps.{follows_bare, follows_internal, follows_keeps, follows_marks, keeps_joined}
@@ -78,9 +79,7 @@ pub record IsMarkedFrom (v : View) (except : Option ℕ) (new : View) : Type 0 w
 -- what `complete` makes of a marking
 pub record IsCompleted (name : Option ℕ) (c d : View) : Type 0 where
   pub works : Works name c d
-  pub empty : d.stack ≡ []
-  pub sound : Marking (heap_graph c) (silent_of name) (marks c) c.stack → (t : ℕ) → marks d t ≡ true → Reached (heap_graph c) none (silent_of name) t
-  pub all : Marking (heap_graph c) (silent_of name) (marks c) c.stack → (t : ℕ) → Reached (heap_graph c) none (silent_of name) t → marks d t ≡ true
+  pub all : Progress (heap_graph c) (silent_of name) (marks c) c.stack → (t : ℕ) → Reached (heap_graph c) none (silent_of name) t → marks d t ≡ true
 
 -- what marking the internal objects does
 pub record MarksInternal (a b : View) : Type 0 where
@@ -91,22 +90,28 @@ pub record MarksInternal (a b : View) : Type 0 where
   pub inner : (s : ℕ) → is_internal (store a) s ≡ true → is_marked b.words s ≡ true
   pub others : (s : ℕ) → is_internal (store a) s ≡ false → is_marked b.words s ≡ is_marked a.words s
 
-module _ (v : View) (whole : IsWhole v) (phase : v.phase ≡ Whole) (except name : Option ℕ) (is : name ≡ excepted v except) (b c d e f g : View)
-    (begins : b ≡ begun v) (roots : Visits (IsRoot (heap_graph b)) b c) (done : IsCompleted name c d) (one : MarksOne name d e) (whole_e : IsWhole e) (internal : MarksInternal e f) (whole_g : IsWhole g) (followed : Follows f g) where
+module _ (v : View) (whole : IsWhole v) (phase : v.phase ≡ Whole) (except name : Option ℕ) (is : name ≡ excepted v except) (b c d d' e f g : View)
+    (begins : b ≡ begun v) (roots : Visits (IsRoot (heap_graph b)) b c) (done : IsCompleted name c d) (cleared : d' ≡ record d { stack = [] }) (one : MarksOne name d' e) (whole_e : IsWhole e) (internal : MarksInternal e f) (whole_g : IsWhole g) (followed : Follows f g) where
   none_marked : NoneMarked b
   none_marked = subst (λ (u : View). NoneMarked u) (sym begins) (none_marked_first v whole phase)
 
-  marking : Marking (heap_graph c) (silent_of name) (marks c) c.stack
-  marking = rooted name b c (ap (λ (u : View). u.stack) begins) none_marked roots
+  progress : Progress (heap_graph c) (silent_of name) (marks c) c.stack
+  progress = rooted name b c (ap (λ (u : View). u.stack) begins) none_marked roots
 
   graph_c : heap_graph c ≡ heap_graph v
   graph_c = roots.keeps.graph ∙ ap heap_graph begins
 
   sound_d : (t : ℕ) → marks d t ≡ true → IsDerived (heap_graph v) none (silent_of name) t
-  sound_d t on = (live_by_rules (heap_graph v) none (silent_of name) t).1 (subst (λ (u : Graph). Reached u none (silent_of name) t) graph_c (done.sound marking t on))
+  sound_d t on = (live_by_rules (heap_graph v) none (silent_of name) t).1 (subst (λ (u : Graph). Reached u none (silent_of name) t) graph_c ((done.works.progress progress).marking.sound t on))
 
   all_d : (t : ℕ) → IsDerived (heap_graph v) none (silent_of name) t → marks d t ≡ true
-  all_d t live = done.all marking t (subst (λ (u : Graph). Reached u none (silent_of name) t) (sym graph_c) ((live_by_rules (heap_graph v) none (silent_of name) t).0 live))
+  all_d t live = done.all progress t (subst (λ (u : Graph). Reached u none (silent_of name) t) (sym graph_c) ((live_by_rules (heap_graph v) none (silent_of name) t).0 live))
+
+  to_cleared : MarksOnly d d'
+  to_cleared = keeps_stacked d d' [] cleared
+
+  same_cleared : (t : ℕ) → marks d' t ≡ marks d t
+  same_cleared t = ap (λ (u : View). marks u t) cleared
 
   to_f : MarksOnly e f
   to_f = keeps_words e f f.words internal.cells internal.graph internal.room internal.rest
@@ -115,17 +120,17 @@ module _ (v : View) (whole : IsWhole v) (phase : v.phase ≡ Whole) (except name
   marks_g t = follows_marks followed t ∙ inner_marks e f to_f whole_e internal.inner internal.others t
 
   found : (t : ℕ) → marks e t ≡ true → IsFound v except t
-  found t on = subst (λ n. IsDerived (heap_graph v) none (silent_of n) t ⊎ (silent_of n t ≡ true)) is (elim (one.only t on) [ inl was ↦ inl (sound_d t was) | inr here ↦ inr here ])
+  found t on = subst (λ n. IsDerived (heap_graph v) none (silent_of n) t ⊎ (silent_of n t ≡ true)) is (elim (one.only t on) [ inl was ↦ inl (sound_d t (sym (same_cleared t) ∙ was)) | inr here ↦ inr here ])
 
   finds : (t : ℕ) → IsFound v except t → marks e t ≡ true
-  finds t live = elim (subst (λ n. IsDerived (heap_graph v) none (silent_of n) t ⊎ (silent_of n t ≡ true)) (sym is) live) [ inl derived ↦ one.more t (all_d t derived) | inr here ↦ one.here t here ]
+  finds t live = elim (subst (λ n. IsDerived (heap_graph v) none (silent_of n) t ⊎ (silent_of n t ≡ true)) (sym is) live) [ inl derived ↦ one.more t (same_cleared t ∙ all_d t derived) | inr here ↦ one.here t here ]
 
   pub marked_from : IsMarkedFrom v except g
   marked_from = record {
-    keeps = keeps_joined (subst (λ (u : View). Keeps u f) begins (keeps_all (keeps_then roots.keeps (keeps_then done.works.keeps (keeps_then one.keeps to_f))))) (follows_keeps followed);
+    keeps = keeps_joined (subst (λ (u : View). Keeps u f) begins (keeps_all (keeps_then roots.keeps (keeps_then done.works.keeps (keeps_then to_cleared (keeps_then one.keeps to_f)))))) (follows_keeps followed);
     sound = λ t there on. found t (sym (marks_g t) ∙ (λ x. there x && on x));
     complete = λ t live. (and_parts (is_ordinary (store g) t) (is_marked g.words t) (marks_g t ∙ finds t live)).1;
     inner = follows_internal followed whole_g (inner_marked e f to_f whole_e internal.inner internal.others);
-    bare = follows_bare followed (inner_bare e f to_f whole_e internal.inner internal.others (one.bare (done.works.bare (roots.bare none_marked.forwarders))));
-    empty = ap (λ (u : View). u.stack) followed.rest ∙ ap (λ (u : View). u.stack) internal.rest ∙ one.stack ∙ done.empty;
+    bare = follows_bare followed (inner_bare e f to_f whole_e internal.inner internal.others (one.bare (subst (λ (u : View). AreBare u) (sym cleared) (done.works.bare (roots.bare none_marked.forwarders)))));
+    empty = ap (λ (u : View). u.stack) followed.rest ∙ ap (λ (u : View). u.stack) internal.rest ∙ one.stack ∙ ap (λ (u : View). u.stack) cleared;
   }

@@ -15,7 +15,8 @@ use Rattle.spur_heap.specs.Views.{store}
 use Rattle.spur_heap.proofs.FewObjects.{half_ordinary}
 use Rattle.spur_heap.proofs.Puts.{whole_sound}
 use Rattle.spur_heap.specs.MarkBits.{IsObject, StartsAt, begun, marks}
-use Rattle.marker.specs.Marks.{Marking, silent_of}
+use Rattle.marker.specs.Marks.{silent_of}
+use Rattle.marker.specs.Waiting.{Progress}
 use Rattle.marker.specs.Visits.{left, AreBare, HasRoom, IsStackOf, Visits}
 use Rattle.marker.proofs.Steps.{none-in-nil}
 
@@ -67,10 +68,16 @@ none_first v n s on =
     false≢true (sym (n.objects s (ordinary_there (store v) s both.0)) ∙ both.1)
 
 -- the roots were visited
-pub rooted : (except : Option ℕ) (a b : View) → a.stack ≡ [] → NoneMarked a → Visits (IsRoot (heap_graph a)) a b → Marking (heap_graph b) (silent_of except) (marks b) b.stack
-rooted except a b empty n v = subst (λ g. Marking g (silent_of except) (marks b) b.stack) (sym v.keeps.graph) (record {
-  rooted = v.scanned.all;
-  sound = λ t o. elim (v.scanned.only t o) [ inl was ↦ absurd (none_first a n t was) | inr r ↦ AtRoot t r ];
-  stacked = λ t c. elim (v.scanned.stacked t c) [ inl was ↦ absurd (none-in-nil t (subst (λ (xs : List ℕ). Contains xs t) empty was)) | inr r ↦ v.scanned.all t r ];
-  done = λ s t m o q has c. elim (v.scanned.new s o) [ inl was ↦ absurd (none_first a n s was) | inr c' ↦ inl c' ];
+pub rooted : (except : Option ℕ) (a b : View) → a.stack ≡ [] → NoneMarked a → Visits (IsRoot (heap_graph a)) a b → Progress (heap_graph b) (silent_of except) (marks b) b.stack
+rooted except a b empty n v = subst (λ g. Progress g (silent_of except) (marks b) b.stack) (sym v.keeps.graph) (record {
+  marking = record {
+    rooted = v.scanned.all;
+    sound = λ t o. elim (v.scanned.only t o) [ inl was ↦ absurd (none_first a n t was) | inr r ↦ AtRoot t r ];
+    stacked = λ t c. elim (v.scanned.stacked t c) [ inl was ↦ absurd (none-in-nil t (subst (λ (xs : List ℕ). Contains xs t) empty was)) | inr r ↦ v.scanned.all t r ];
+    done = λ s t m o q has c. inl (first s o);
+  };
+  keyed = λ s t m o q has is c. inl (first s o);
 })
+  where
+    first : (s : ℕ) → marks b s ≡ true → Contains b.stack s
+    first s o = elim (v.scanned.new s o) [ inl was ↦ absurd (none_first a n s was) | inr c ↦ c ]

@@ -72,7 +72,7 @@ visits_none named v all = record {
   keeps = keeps_same v;
   scanned = scanned_none named (marks v) v.stack all;
   low = omega arith;
-  fewer = omega arith;
+  grown = omega arith;
   bare = λ i. i;
   ordinary = λ o. o;
 }
@@ -83,7 +83,7 @@ visits_joined R k l scanned = record {
   keeps = keeps_then k.keeps l.keeps;
   scanned = scanned;
   low = let x = k.low in let y = l.low in omega (arith, x, y);
-  fewer = let x = k.fewer in let y = l.fewer in omega (arith, x, y);
+  grown = let x = k.grown in let y = l.grown in omega (arith, x, y);
   bare = λ i. l.bare (k.bare i);
   ordinary = λ o. l.ordinary (k.ordinary o);
 }
@@ -96,7 +96,7 @@ visits_as P Q a b to back k = record {
   keeps = k.keeps;
   scanned = scanned_as P Q (marks a) (marks b) a.stack b.stack to back k.scanned;
   low = k.low;
-  fewer = k.fewer;
+  grown = k.grown;
   bare = k.bare;
   ordinary = k.ordinary;
 }
@@ -118,7 +118,7 @@ visits_one a b whole s there off keeps on others pushed =
       keeps = keeps;
       scanned = subst (Scanned (λ t. t ≡ s) (marks a) (marks b) a.stack) (sym pushed) (scanned_one (marks a) (marks b) a.stack s now else);
       low = omega (arith, less, count);
-      fewer = omega (arith, less);
+      grown = omega (arith, count);
       bare = λ i t moved. elim (cases_eq t s) [
         | inl q ↦ absurd (no_forwarder ((store a).cell s) (ordinary_there (store a) s there) (ap (λ u. is_moved ((store a).cell u)) (sym q) ∙ sym (same_moved keeps t) ∙ moved))
         | inr q ↦ others t q ∙ i t (sym (same_moved keeps t) ∙ moved)

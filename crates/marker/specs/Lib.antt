@@ -1,4 +1,5 @@
 pub mod Marks
+pub mod Waiting
 pub mod Visits
 pub mod Roots
 pub mod Followed

@@ -1,15 +1,14 @@
 -- Marking on the words of a heap.
-use Rattle.std.specs.Prelude.{◌≡◌, ◌⊎◌, Option, false, ◌≤◌, ◌<◌, ◌+◌, ◌/◌, ℕ, List, [], ◌∷◌, Bool, true, if◌then◌else◌, slice_index_or, length}
+use Rattle.std.specs.Prelude.{◌≡◌, Option, false, ◌≤◌, ◌<◌, ◌+◌, ◌/◌, ℕ, List, [], ◌∷◌, Bool, true, if◌then◌else◌, slice_index_or, length}
 use Rattle.std.specs.List.{Contains}
 use Rattle.spur_graph.specs.declared.answer.Value.TheVariants.{Ref}
-use Rattle.spur_graph.specs.Node.{Node}
-use Rattle.spur_graph.specs.Live.{strong_values, is_keyed, HasKey}
 use Rattle.spur_graph.specs.Cells.{is_moved, is_there}
 use Rattle.spur_graph.specs.Ordinary.{is_ordinary, is_good_word, ordinary_starts}
 use Rattle.spur_graph.specs.Heaps.{View, heap_graph, heap_room, heap_value, is_marked}
 use Rattle.spur_heap.specs.Views.{IsOrdinary, node_in, store}
 use Rattle.spur_heap.specs.MarkBits.{marks}
-use Rattle.marker.specs.Marks.{Scanned, Marking, silent_of}
+use Rattle.marker.specs.Marks.{Scanned, silent_of}
+use Rattle.marker.specs.Waiting.{Progress, counted_values}
 
 -- how many of these do not pass
 abbrev pub left : (ℕ → Bool) → List ℕ → ℕ
@@ -49,6 +48,10 @@ AreBare v = (s : ℕ) → is_moved ((store v).cell s) ≡ true → is_marked v.w
 abbrev pub HasRoom : View → Type 0
 HasRoom v = unmarked v + length v.stack ≤ length v.words / 2
 
+-- and for one object more
+abbrev pub HasRoomForOne : View → Type 0
+HasRoomForOne v = unmarked v + length v.stack < length v.words / 2
+
 -- ordinary objects stand on the stack
 abbrev pub IsStackOf : View → Type 0
 IsStackOf v = (t : ℕ) → Contains v.stack t → IsOrdinary v t
@@ -58,7 +61,7 @@ pub record Visits (named : ℕ → Type 0) (old new : View) : Type 0 where
   pub keeps : MarksOnly old new
   pub scanned : Scanned named (marks old) (marks new) old.stack new.stack
   pub low : unmarked new + length new.stack ≤ unmarked old + length old.stack
-  pub fewer : unmarked new ≤ unmarked old
+  pub grown : length old.stack ≤ length new.stack
   pub bare : AreBare old → AreBare new
   pub ordinary : IsStackOf old → IsStackOf new
 
@@ -74,33 +77,15 @@ NamedBySlot v s i t = slice_index_or (node_in v s).pointers i (heap_value v 0) �
 abbrev pub NamesBelow : View → ℕ → ℕ → ℕ → Type 0
 NamesBelow v s k t = Among (NamedBySlot v s) k t
 
--- the object has the name strongly
-abbrev pub NamesStrongly : View → ℕ → ℕ → Type 0
-NamesStrongly v s t = Contains (strong_values (heap_graph v) (node_in v s)) (Ref t)
+-- the object has the name in a slot that counts where it does not wait
+abbrev pub NamesCounted : View → ℕ → ℕ → Type 0
+NamesCounted v s t = Contains (counted_values (heap_graph v) (node_in v s)) (Ref t)
 
 -- some marking was done: what held of the marks holds again
 pub record Works (except : Option ℕ) (old new : View) : Type 0 where
   pub keeps : MarksOnly old new
-  pub marking : Marking (heap_graph old) (silent_of except) (marks old) old.stack → Marking (heap_graph old) (silent_of except) (marks new) new.stack
+  pub progress : Progress (heap_graph old) (silent_of except) (marks old) old.stack → Progress (heap_graph old) (silent_of except) (marks new) new.stack
   pub more : (t : ℕ) → marks old t ≡ true → marks new t ≡ true
   pub low : unmarked new + length new.stack ≤ unmarked old + length old.stack
-  pub fewer : unmarked new ≤ unmarked old
   pub bare : AreBare old → AreBare new
   pub ordinary : IsStackOf old → IsStackOf new
-
--- the key of an ephemeron is an immediate or is marked
-abbrev pub KeyMarked : View → Node → Type 0
-KeyMarked v n = HasKey n (λ c. marks v c ≡ true)
-
--- what starts there was looked at: an ephemeron whose key is marked has its values marked
-pub record LooksAt (except : Option ℕ) (b : ℕ) (old new : View) : Type 0 where
-  pub works : Works except old new
-  pub fresh : (t : ℕ) → marks new t ≡ true → (marks old t ≡ true) ⊎ Contains new.stack t
-  pub kept : (t : ℕ) → Contains old.stack t → Contains new.stack t
-  pub done : (a : ℕ) → marks old b ≡ true → silent_of except b ≡ false → is_keyed (node_in old b) ≡ true → KeyMarked old (node_in old b) → Contains (node_in old b).pointers (Ref a) → marks new a ≡ true
-
--- the ephemerons that start below `i` were looked at, with nothing on the stack to begin with
-pub record Looks (except : Option ℕ) (i : ℕ) (old new : View) : Type 0 where
-  pub works : Works except old new
-  pub fresh : (t : ℕ) → marks new t ≡ true → (marks old t ≡ true) ⊎ Contains new.stack t
-  pub done : (b a : ℕ) → b < i → marks old b ≡ true → silent_of except b ≡ false → is_keyed (node_in old b) ≡ true → KeyMarked old (node_in old b) → Contains (node_in old b).pointers (Ref a) → marks new a ≡ true

@@ -1,11 +1,11 @@
 // Which objects are ordinary, and which are the heap's own.
-ghost use Rattle.std.specs.Prelude.{◌≡◌, ◌&&◌, ◌<◌, length, not, nat_eq, true};
+ghost use Rattle.std.specs.Prelude.{◌≡◌, ◌≢◌, ◌&&◌, ◌<◌, length, not, nat_eq, false, true};
 ghost use Rattle.spur_graph.specs.Cells.{any_below, first};
 ghost use Rattle.spur_graph.specs.Ordinary.{is_ordinary, page_places, tells};
 ghost use Rattle.spur_graph.specs.Heaps.{store_of};
-ghost use Rattle.spur_heap.specs.MarkBits.{IsObject};
+ghost use Rattle.spur_heap.specs.MarkBits.{IsObject, StartsAt, marks};
 ghost use Rattle.spur_heap.specs.Parts.{view_of};
-ghost use Rattle.spur_heap.specs.Views.{store};
+ghost use Rattle.spur_heap.specs.Views.{node_in, store};
 ghost use Rattle.spur_heap.specs.Words.{AreSound, body_in, is_object};
 
 use heap_walk::slots_of;
@@ -17,11 +17,22 @@ use spur_heap::{Heap, HeapParts, first_start};
 const PAGE_FORMAT: u64 = 2;
 
 /// The format of an object, which may be one of the heap's own.
-pub fn format_of(heap: &Heap, start: usize) -> u64
+fn format_of(heap: &Heap, start: usize) -> u64
     requires there { IsObject heap.now start }
     ensures { result ≡ (body_in heap.now start).format }
 {
     Header(heap.parts.region.get(start)).format()
+}
+
+/// Whether an object of this format starts there. It may be one of the heap's own.
+pub fn has_format(heap: &Heap, start: usize, format: u64) -> bool
+    requires there { StartsAt heap.now start }
+    ensures no { result ≡ false → marks heap.now start ≡ true → (node_in heap.now start).format ≢ format }
+{
+    if heap.is_forwarder(start) {
+        return false;
+    }
+    format_of(heap, start) == format
 }
 
 /// Whether an object is an ordinary one: neither the free lists object, nor the hidden roots, nor a page of the class table.

@@ -4,6 +4,7 @@
 mod drain;
 mod follow;
 mod inner;
+mod keys;
 mod look;
 mod marking;
 mod nils;

@@ -51,6 +51,7 @@ pub fn mark(heap: &mut Heap, except: Option<u64>)
     heap.begin_marking();
     visit_roots(heap);
     complete(heap, name);
+    heap.clear_stack();
     mark_excepted(heap, name);
     heap.whole();
     heap.mark_internal();

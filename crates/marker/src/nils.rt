@@ -9,9 +9,9 @@ ghost use Rattle.spur_heap.specs.Views.{node_in};
 ghost use Rattle.weak_ephemeron.specs.Steps.{NilsOne};
 ghost use Rattle.marker.specs.Firing.{NilsBelow};
 
-use crate::inner::is_ordinary;
+use crate::inner::{has_format, is_ordinary};
 use spur_heap::Heap;
-use weak_ephemeron::nil_weak;
+use weak_ephemeron::{WEAK_FORMAT, nil_weak};
 
 /// Whether a marked ordinary object starts there.
 pub fn is_live(heap: &Heap, start: usize) -> bool
@@ -31,7 +31,11 @@ fn nil_at(heap: &mut Heap, start: usize) -> u64
     ensures skips { marks heap.old start ≡ false → (heap.new ≡ heap.old) × (result ≡ 0) }
     ensures nils { marks heap.old start ≡ true → NilsOne start heap.old heap.new }
     ensures count { marks heap.old start ≡ true → result ≡ count_by (names_dead (marks heap.old)) (weak_values (heap_graph heap.old) (node_in heap.old start)) }
+    ensures idle { result ≡ 0 → heap.new ≡ heap.old }
 {
+    if !has_format(heap, start, WEAK_FORMAT) {
+        return 0;
+    }
     if !is_live(heap, start) {
         return 0;
     }
@@ -43,6 +47,7 @@ pub fn nil_all(heap: &mut Heap) -> u64
     requires phase { heap.old.phase ≡ Marked }
     ensures nils { NilsBelow (length heap.old.words) heap.old heap.new }
     ensures count { result ≡ nils (marks heap.old) (heap_graph heap.old) }
+    ensures idle { result ≡ 0 → heap.new ≡ heap.old }
 {
     let mut nilled = 0;
     let mut at = 0;

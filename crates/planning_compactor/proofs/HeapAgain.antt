@@ -12,9 +12,11 @@ use Rattle.free_lists.specs.declared.lists.FreeLists.{FreeLists}
 use Rattle.spur_graph.specs.Graph.{Handle}
 use Rattle.spur_graph.specs.Cells.{first}
 use Rattle.spur_graph.specs.Ordinary.{ordinary_starts}
-use Rattle.spur_graph.specs.Heaps.{is_marked, store_of}
+use Rattle.spur_graph.specs.Heaps.{IsWhole, is_marked, store_of}
 use Rattle.handle_table.specs.Handles.{held}
-use Rattle.spur_heap.specs.Parts.{view_of, ArePartsOfHeap}
+use Rattle.spur_heap.specs.Parts.{view_of, ArePartsOfHeap, HasMap, HasRemembered}
+use Rattle.remembered_set.specs.Starts.{Table}
+use Rattle.spur_heap.specs.Tables.{HasPlaces}
 use Rattle.spur_heap.specs.declared.heap.HeapParts.{HeapParts}
 use Rattle.compaction_laws.specs.Compacting.{Compacts, IsTight, is_mapped}
 use Rattle.planning_compactor.specs.declared.parts.Parts.{Parts}
@@ -23,7 +25,7 @@ use Rattle.planning_compactor.specs.Ranges.{CanCompact, CompactsRanges, ranges_i
 use Rattle.planning_compactor.proofs.HeapMoved.{free-gap, row-now}
 use Rattle.planning_compactor.proofs.HeapRanges.{can-compact}
 use Rattle.planning_compactor.proofs.HeapRoots.{AreHeld}
-use Rattle.planning_compactor.proofs.HeapWhole.{IsRebuilt, after, compacts, moved, parts-after, row}
+use Rattle.planning_compactor.proofs.HeapWhole.{IsRebuilt, after, compacts, moved, whole-after, map-after, places-after, parts-after, row}
 
 -- the map of `q` has the starts of marked objects alone, and they are counted; else it is as `p`
 pub record IsSweptOf (p q : HeapParts) : Type 0 where
@@ -93,8 +95,21 @@ module _ {p q : HeapParts} (k : ArePartsOfHeap p) (t : IsTight (view_of p)) (s :
       is-again : again d ≡ after k t same-map compacted rebuilt
       is-again = ap again compacted.rest
 
-      pub parts-again : ArePartsOfHeap (again d)
-      parts-again = subst ArePartsOfHeap (sym is-again) (parts-after k t same-map compacted rebuilt)
+      pub whole-again : IsWhole (view_of (again d))
+      whole-again = subst (λ (x : HeapParts). IsWhole (view_of x)) (sym is-again) (whole-after k t same-map compacted rebuilt)
+
+      pub map-again : HasMap (again d)
+      map-again = subst (λ (x : HeapParts). HasMap x) (sym is-again) (map-after k t same-map compacted rebuilt)
+
+      pub places-again : HasPlaces (length (again d).region) (again d).remembered.capacity
+      places-again = subst (λ (x : HeapParts). HasPlaces (length x.region) x.remembered.capacity) (sym is-again) (places-after k t same-map compacted rebuilt)
+
+      -- once the table of remembered starts is made anew
+      pub parts-again : (table : Table) → HasRemembered (record (again d) { remembered = table }) → ArePartsOfHeap (record (again d) { remembered = table })
+      parts-again table remembered =
+          let same : ◌≡◌ {A = HeapParts} (record (again d) { remembered = table }) (record (after k t same-map compacted rebuilt) { remembered = table }) =
+          ap (λ (x : HeapParts). let y : HeapParts = record x { remembered = table } in y) is-again in
+          subst (λ (x : HeapParts). ArePartsOfHeap x) (sym same) (parts-after k t same-map compacted rebuilt table (subst (λ (x : HeapParts). HasRemembered x) same remembered))
 
       pub compacts-again : (goes : ℕ → ℕ) × Compacts goes (view_of p) (view_of (again d))
       compacts-again = (compacted.goes, subst (λ (x : HeapParts). Compacts compacted.goes (view_of p) (view_of x)) (sym is-again) (compacts k t same-map compacted rebuilt))

@@ -12,15 +12,16 @@ use Rattle.free_lists.specs.declared.lists.FreeLists.{FreeLists}
 use Rattle.spur_graph.specs.Cells.{first}
 use Rattle.spur_graph.specs.Ordinary.{ordinary_starts}
 use Rattle.spur_graph.specs.Spaces.{old_row}
-use Rattle.spur_graph.specs.Heaps.{View, is_marked, store_of}
+use Rattle.spur_graph.specs.Heaps.{View, IsWhole, is_marked, store_of}
 use Rattle.heap_cells.specs.Settled.{word_of}
 use Rattle.heap_cells.proofs.Cutting.{row-is}
 use Rattle.heap_laws.specs.Compaction.{with_lists}
 use Rattle.heap_laws.specs.Instances.{IsReaddressedOutside}
 use Rattle.heap_laws.specs.Placing.{outside_of}
 use Rattle.handle_table.specs.Handles.{held}
-use Rattle.spur_heap.specs.Tables.{Parted, groups_of, parted}
-use Rattle.spur_heap.specs.Parts.{view_of, ArePartsOfHeap, HasMap, HasTables}
+use Rattle.remembered_set.specs.Starts.{Table}
+use Rattle.spur_heap.specs.Tables.{Parted, groups_of, parted, HasPlaces}
+use Rattle.spur_heap.specs.Parts.{view_of, ArePartsOfHeap, HasMap, HasRemembered, HasTables}
 use Rattle.spur_heap.specs.declared.heap.HeapParts.{HeapParts}
 use Rattle.compaction_laws.specs.Compacting.{Compacts, IsFull, IsTight, is_mapped}
 use Rattle.compaction_laws.proofs.Counts.{count-left}
@@ -135,7 +136,7 @@ module _ {a : HeapParts} (k : ArePartsOfHeap a) (t : IsTight (view_of a)) {swept
           or_none true = refl
           or_none false = refl
 
-      map-after : HasMap after
+      pub map-after : HasMap after
       unfolding compacts
       map-after = record { starts = λ s. start-is s ∙ sym (compacted_starts c.goes v v' k.whole t compacts s); covers = r.covers ∙ sym long }
 
@@ -162,11 +163,26 @@ module _ {a : HeapParts} (k : ArePartsOfHeap a) (t : IsTight (view_of a)) {swept
       row-after : old_row region v'.spaces ≡ row
       row-after = row-is region 0 a.old_end row (same-row r.relisted)
 
-      pub parts-after : ArePartsOfHeap after
-      parts-after = record {
-        whole = compacted_is_whole c.goes v v' k.whole t compacts;
-        map = map-after;
+      pub whole-after : IsWhole v'
+      whole-after = compacted_is_whole c.goes v v' k.whole t compacts
+
+      pub places-after : HasPlaces (length region) a.remembered.capacity
+      places-after = subst (λ n. HasPlaces n a.remembered.capacity) (sym long) k.remembered.table.places
+
+      -- once the table of remembered starts is made anew
+      pub parts-after : (table : Table) → HasRemembered (record after { remembered = table }) → ArePartsOfHeap (record after { remembered = table })
+      parts-after table remembered = record {
+        whole = whole-after;
+        map = record { starts = map-after.starts; covers = map-after.covers };
         free_chunks = record { lists = subst (Lists region free) (sym (ap (free_runs region) row-after ∙ runs-same r.relisted)) r.lists };
         objects = record { count = r.count_is ∙ sym (count-left k.whole t compacts) };
-        tables = tables-after;
+        remembered = remembered;
+        tables = record {
+          taken = tables-after.taken;
+          grouped = tables-after.grouped;
+          mourner_places = tables-after.mourner_places;
+          mark_places = tables-after.mark_places;
+          saved = tables-after.saved;
+          some_saved = tables-after.some_saved;
+        };
       }

@@ -4,9 +4,11 @@ ghost use Rattle.heap_walk.specs.Starts.{has_start, covered};
 ghost use Rattle.std.specs.List.{filter};
 ghost use Rattle.spur_graph.specs.Cells.{first};
 ghost use Rattle.spur_graph.specs.Ordinary.{ordinary_starts};
-ghost use Rattle.spur_graph.specs.Heaps.{Marked, is_marked, store_of};
+ghost use Rattle.spur_graph.specs.Heaps.{IsWhole, Marked, is_marked, store_of};
 ghost use Rattle.spur_heap.specs.Words.{AreSound};
-ghost use Rattle.spur_heap.specs.Parts.{view_of, ArePartsOfHeap};
+ghost use Rattle.remembered_set.specs.Starts.{Table};
+ghost use Rattle.spur_heap.specs.Parts.{view_of, ArePartsOfHeap, HasMap, HasRemembered};
+ghost use Rattle.spur_heap.specs.Tables.{HasPlaces};
 ghost use Rattle.compaction_laws.specs.Compacting.{IsTight, Compacts, is_mapped};
 ghost use Rattle.planning_compactor.specs.Ranges.{ranges_in, roots_in, CanCompact, CompactsRanges};
 ghost use Rattle.planning_compactor.specs.Heaps.{IsCompactedHeap};
@@ -14,7 +16,7 @@ ghost use Rattle.planning_compactor.specs.Heaps.{IsCompactedHeap};
 use crate::parts::{Part, Parts, YoungEnds, compact_words};
 use crate::sweeps::sweep;
 use spur_graph::{FREE_LISTS, HIDDEN_ROOTS, HIDDEN_ROOTS_SLOTS};
-use spur_heap::{Heap, HeapParts, first_start};
+use spur_heap::{Heap, HeapParts, first_start, remember_anew};
 
 /// The ranges that are compacted: old space behind the hidden roots, and what is used of eden and of past space.
 fn ranges_of(parts: &HeapParts) -> Parts
@@ -74,11 +76,14 @@ fn sweep_parts(parts: &mut HeapParts, lists: usize)
     parts.starts.unset(lists);
 }
 
-/// Compacts the spaces of a heap, each within itself.
-fn compact_spaces(parts: &mut HeapParts)
+/// Compacts the spaces of a heap, each within itself. The table of remembered starts is to be made anew then.
+fn compact_objects(parts: &mut HeapParts)
     requires heap { ArePartsOfHeap parts.old }
     requires tight { IsTight (view_of parts.old) }
-    ensures heap { ArePartsOfHeap parts.new }
+    ensures whole { IsWhole (view_of parts.new) }
+    ensures map { HasMap parts.new }
+    ensures places { HasPlaces (length parts.new.region) parts.new.remembered.capacity }
+    ensures heap { (table : Table) → HasRemembered (record parts.new { remembered = table }) → ArePartsOfHeap (record parts.new { remembered = table }) }
     ensures compacts { (p : ℕ → ℕ) × Compacts p (view_of parts.old) (view_of parts.new) }
 {
     let ranges = ranges_of(parts);
@@ -92,6 +97,17 @@ fn compact_spaces(parts: &mut HeapParts)
     parts.starts.set(lists);
     parts.free.rebuild(&mut parts.region, 0, parts.old_end);
     parts.forwarders = false;
+}
+
+/// Compacts the spaces of a heap, and makes the table of remembered starts anew, since what it names has moved or is gone.
+fn compact_spaces(parts: &mut HeapParts)
+    requires heap { ArePartsOfHeap parts.old }
+    requires tight { IsTight (view_of parts.old) }
+    ensures heap { ArePartsOfHeap parts.new }
+    ensures compacts { (p : ℕ → ℕ) × Compacts p (view_of parts.old) (view_of parts.new) }
+{
+    compact_objects(parts);
+    remember_anew(parts);
 }
 
 /// Compacts old space, eden and past space of a heap, each within itself: each marked object goes to its planned place, whatever is not marked is gone, and

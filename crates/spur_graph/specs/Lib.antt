@@ -31,6 +31,7 @@ pub mod State
 pub mod Live
 pub mod Rounds
 pub mod Collections
+pub mod Scavenges
 pub mod Refusals
 pub mod Refused
 pub mod Shows

@@ -1,6 +1,6 @@
 -- The tables that are made of the words of a heap.
-use Rattle.std.proofs.Common.{◌≡◌, ℕ, Bool, true, false, not, cond, ◌&&◌, ◌||◌, ◌+◌, eqb, List, [], ◌∷◌, length, get_or, refl, sym, ap, ◌∙◌, arith, inl, inr}
-use Rattle.std.proofs.lemmas.Bool.{cases_Bool}
+use Rattle.std.proofs.Common.{◌≡◌, ℕ, Bool, true, false, not, cond, ◌&&◌, ◌||◌, ◌+◌, eqb, List, [], ◌∷◌, length, get_or, refl, sym, ap, ◌∙◌, subst, arith, inl, inr}
+use Rattle.std.proofs.lemmas.Bool.{false≢true, cases_Bool}
 use Rattle.std.specs.List.{filter}
 use Rattle.object_header.specs.Fields.{Fields, fields_of}
 use Rattle.object_header.specs.Chunks.{Chunk, row, slots_of, starts_in}
@@ -8,9 +8,9 @@ use Rattle.heap_walk.specs.Starts.{has_start, covered}
 use Rattle.heap_walk.specs.declared.starts.StartMap.{StartMap}
 use Rattle.spur_graph.specs.Cells.{Store, is_start, is_there, cell_in, cell_from, read_cell, start_named}
 use Rattle.spur_graph.specs.Ordinary.{is_internal, is_ordinary, ordinary_starts}
-use Rattle.spur_graph.specs.Heaps.{View, store_of, heap_to}
+use Rattle.spur_graph.specs.Heaps.{View, store_of, chunks_of, heap_to}
 use Rattle.heap_cells.specs.Rows.{starts_of}
-use Rattle.heap_cells.proofs.Cutting.{cell-at}
+use Rattle.heap_cells.proofs.Cutting.{cell-at, start-in, stands}
 use Rattle.heap_cells.proofs.Internals.{internal-starts}
 use Rattle.heap_cells.proofs.Members.{In}
 use Rattle.heap_cells.proofs.Starts.{start-of-row}
@@ -20,10 +20,14 @@ use Rattle.free_lists.specs.Lists.{Lists}
 use Rattle.free_lists.specs.declared.lists.FreeLists.{FreeLists}
 use Rattle.spur_heap.specs.declared.heap.HeapParts.{HeapParts}
 use Rattle.spur_heap.specs.Counting.{is_object_header, count_new}
-use Rattle.spur_heap.specs.Parts.{view_of, HasTables, ArePartsOfHeap}
+use Rattle.spur_heap.specs.Parts.{view_of, HasTables, HasRemembered, ArePartsOfHeap}
 use Rattle.spur_heap.specs.Views.{Adopts}
-use Rattle.spur_heap.proofs.Tables.{tables_kept}
-use Rattle.spur_heap.proofs.Rebuilt.{Rebuilds, in_row, rows_before, cells_rebuilt, rebuilt_whole, rebuilt_graph, rebuilt_room, rebuilt_count, rebuilt_lists, rebuilt_others}
+use Rattle.spur_heap.specs.Words.{starts_at}
+use Rattle.spur_heap.proofs.Noted.{table_same}
+use Rattle.spur_heap.proofs.RunSizes.{told_free}
+use Rattle.spur_heap.proofs.Tables.{SameNoted, noted_from, tables_kept}
+use Rattle.spur_heap.proofs.Touched.{same_bit}
+use Rattle.spur_heap.proofs.Rebuilt.{Rebuilds, rewrites, in_row, rows_before, cells_rebuilt, rebuilt_whole, rebuilt_graph, rebuilt_room, rebuilt_count, rebuilt_lists, rebuilt_others}
 
 there_from : (f : Fields) (next : ℕ) (ws : List ℕ) → is_there (cell_from f next ws) ≡ (not (eqb f.class 0) && not (eqb f.class 8))
 there_from f next ws = elim (cases_Bool (eqb f.class 0)) [
@@ -59,6 +63,7 @@ pub record Makes (p : HeapParts) (one two : StartMap) (n : ℕ) (free : FreeList
   pub covers : covered two ≡ length p.region
   pub count : n ≡ count_new p.region one (row p.region 0 p.old_end)
   pub lists : Lists new free (free_runs p.region (row p.region 0 p.old_end))
+  pub remembered : HasRemembered p
   pub tables : HasTables p
 
 module _ {p : HeapParts} {one two : StartMap} {n : ℕ} {free : FreeLists} {new : List ℕ} (k : Makes p one two n free new) where
@@ -88,6 +93,20 @@ module _ {p : HeapParts} {one two : StartMap} {n : ℕ} {free : FreeLists} {new 
       k.count ∙ counted_ordinary (store_of v) p.region one before there_told k.internal
       ∙ ap (λ (cs : List Chunk). length (filter (is_ordinary (store_of v)) (starts_of cs))) (sym (rows_before k.rebuilds))
 
+  -- a start has its header as before
+  header_kept : (t : ℕ) → starts_at v t ≡ true → get_or new t 0 ≡ get_or p.region t 0
+  header_kept t on =
+      let d = start-in heap_to p.region (chunks_of v) t on in
+      let m : In before d.0 = subst (λ (cs : List Chunk). In cs d.0) (rows_before k.rebuilds) d.1 in
+      let l = (stands p.region 0 p.old_end before d.0 (in_row k.rebuilds) m).lies in
+      let kept = told_free v k.rebuilds.whole d.0 d.1 ∙ ap not (ap (starts_at v) d.2 ∙ on) in
+      subst (λ x. get_or new x 0 ≡ get_or p.region x 0) d.2 ((rewrites k.rebuilds).same d.0 m kept d.0.start l.lead (omega (arith, l.room)))
+
+  still_noted : SameNoted v (view_of made)
+  still_noted = noted_from v (view_of made)
+      (λ t on. (ap is_start (cells_rebuilt k.rebuilds t) ∙ on, same_bit p.region new t (header_kept t on)))
+      (λ t none on. absurd (false≢true (sym none ∙ sym (ap is_start (cells_rebuilt k.rebuilds t)) ∙ on)))
+
   pub made_parts : ArePartsOfHeap made
   made_parts = record {
     whole = rebuilt_whole k.rebuilds;
@@ -97,6 +116,7 @@ module _ {p : HeapParts} {one two : StartMap} {n : ℕ} {free : FreeLists} {new 
     };
     free_chunks = record { lists = rebuilt_lists k.rebuilds free k.lists };
     objects = record { count = counted ∙ sym (rebuilt_count k.rebuilds) };
+    remembered = record { table = table_same still_noted k.rebuilds.long k.remembered.table };
     tables = tables_kept p made k.tables k.rebuilds.long refl;
   }
 

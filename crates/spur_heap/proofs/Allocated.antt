@@ -14,6 +14,9 @@ use Rattle.spur_heap.specs.Fresh.{fill_word, PutsObject, IsFreshRun}
 use Rattle.spur_heap.specs.Allocating.{CanMake, Makes}
 use Rattle.spur_heap.proofs.EdenServed.{IsGrown, eden_whole, eden_adds, eden_lists, eden_count, eden_made, made_anywhere, old_has_to}
 use Rattle.spur_heap.proofs.FewObjects.{half_ordinary}
+use Rattle.spur_heap.proofs.FreshRuns.{fresh_is_forgotten}
+use Rattle.spur_heap.proofs.Noted.{table_same}
+use Rattle.spur_heap.proofs.NotedMade.{made_noted, eden_noted, served_starts}
 use Rattle.spur_heap.proofs.Made.{starts_made}
 use Rattle.spur_heap.proofs.OldServed.{old_whole, old_adds, old_lists, old_count, old_made}
 use Rattle.spur_heap.proofs.Needs.{eden_fits}
@@ -67,6 +70,9 @@ module _ (p : HeapParts) (k : ArePartsOfHeap p) (class format slots : ℕ) (can 
       };
       free_chunks = record { lists = old_lists served can run };
       objects = record { count = ap (λ m. m + 1) k.objects.count ∙ sym (old_count served can run) };
+      remembered = record {
+        table = table_same (made_noted v (view_of after) (old_adds served can run) (served_starts served) (fresh_is_forgotten q.region at class format slots (fill_word v format) run)) (puts.long ∙ long) k.remembered.table;
+      };
       tables = tables_kept p after k.tables (puts.long ∙ long) refl;
     }
 
@@ -104,6 +110,7 @@ module _ (p : HeapParts) (k : ArePartsOfHeap p) (class format slots : ℕ) (can 
       };
       free_chunks = record { lists = eden_lists grew p.free k.free_chunks.lists };
       objects = record { count = ap (λ m. m + 1) k.objects.count ∙ sym (eden_count grew) };
+      remembered = record { table = table_same (eden_noted grew) puts.long k.remembered.table };
       tables = tables_kept p then k.tables puts.long refl;
     }
 

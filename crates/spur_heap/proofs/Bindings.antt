@@ -37,6 +37,7 @@ module _ (p : HeapParts) (k : ArePartsOfHeap p) where
     map = record { starts = k.map.starts; covers = k.map.covers };
     free_chunks = record { lists = k.free_chunks.lists };
     objects = record { count = k.objects.count };
+    remembered = record { table = k.remembered.table };
     tables = tables_kept p (record p { handles = t }) k.tables refl refl;
   }
 

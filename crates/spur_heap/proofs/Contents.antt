@@ -10,7 +10,7 @@ use Rattle.object_header.proofs.Fields.{field_of-lt}
 use Rattle.spur_graph.specs.Refusals.{waits}
 use Rattle.spur_graph.specs.Cells.{Body, There, Store, body_from, is_formed, is_there, pointer_count, final}
 use Rattle.spur_graph.specs.CellGraph.{node_of}
-use Rattle.spur_graph.specs.Heaps.{View, IsWhole, HasBits, HasNoUnusedBits, store_of, chunks_of, heap_to, heap_graph, own_name, names_over, waiting_in}
+use Rattle.spur_graph.specs.Heaps.{View, IsWhole, HasBits, HasNoUnusedBits, store_of, chunks_of, heap_to, heap_graph, own_name, is_remembered, names_over, waiting_in}
 use Rattle.heap_cells.proofs.CellKinds.{there_is, there_starts, there_is_not_moved}
 use Rattle.heap_cells.proofs.Cutting.{start-in}
 use Rattle.heap_cells.proofs.Members.{In, in_list, listed}
@@ -20,11 +20,13 @@ use Rattle.heap_cells.proofs.UnusedBits.{set_unused}
 use Rattle.heap_cells.proofs.WholeClosed.{waiting_renamed}
 use Rattle.spur_heap.specs.Contents.{TakesHeader}
 use Rattle.spur_heap.specs.Flags.{flag_bit}
+use Rattle.spur_heap.specs.Swaps.{remembers}
 use Rattle.spur_heap.specs.Views.{IsOrdinary, node_in}
 use Rattle.spur_heap.specs.Words.{AreSound, body_in, is_good}
 use Rattle.spur_heap.proofs.Orders.{order}
 use Rattle.spur_heap.proofs.Hops.{start_at}
 use Rattle.spur_heap.proofs.Changing.{IsNoClass}
+use Rattle.spur_heap.proofs.ExchangedHeaders.{remembers_all, remembers_only}
 use Rattle.spur_heap.proofs.Flagged.{flag_small}
 use Rattle.spur_heap.proofs.Written.{slot_good}
 use Rattle.spur_heap.proofs.Puts.{whole_sound, body_is, fields_are}
@@ -40,7 +42,7 @@ pub record SetsTo (lo len old value new : ℕ) (set : Fields → Fields) : Type 
 
 -- the header of the source with another count, this hash, no mark, no grey bit and another remembered bit
 pub header_takes : (v : View) (from to hash own other counted hashed unmarked white word n : ℕ) (on : Bool) (bit : ℕ) → own ≡ get_or v.words to 0 → other ≡ get_or v.words from 0
-    → n ≡ (fields_of own).count → n < 2 ^ 8 → hash < 2 ^ 22 → on ≡ (nat_lt to v.spaces.old_end && names_over v.spaces.old_end ((store_of v).cell from)) → bit ≡ flag_bit on
+    → n ≡ (fields_of own).count → n < 2 ^ 8 → hash < 2 ^ 22 → on ≡ remembers v to from → bit ≡ flag_bit on
     → SetsTo 56 8 other n counted (λ f. record f { count = n }) → SetsTo 32 22 counted hash hashed (λ f. record f { hash = hash }) → SetsTo 55 1 hashed 0 unmarked (λ f. record f { marked = 0 })
     → SetsTo 31 1 unmarked 0 white (λ f. record f { grey = 0 }) → SetsTo 29 1 white bit word (λ f. record f { remembered = bit }) → TakesHeader v from to hash word
 header_takes v from to hash own other counted hashed unmarked white word n on bit own_is other_is n_is n_small hash_small on_is bit_is a b c d e = record {
@@ -126,10 +128,15 @@ module _ (v : View) (whole : IsWhole v) (from to hash w : ℕ) (source : IsOrdin
       record { marked = λ p. ap (λ (f : Fields). f.marked) takes.fields; grey = ap (λ (f : Fields). f.grey) takes.fields; unused = takes.unused was.unused }
 
   pub taken_all : to < v.spaces.old_end → names_over v.spaces.old_end ((store_of v).cell from) ≡ true → (fields_of w).remembered ≡ 1
-  taken_all low over = ap (λ (f : Fields). f.remembered) takes.fields ∙ (λ x. flag_bit (lt-ltb to v.spaces.old_end low x && over x))
+  taken_all low over = ap (λ (f : Fields). f.remembered) takes.fields ∙ ap flag_bit (remembers_all v to from low over)
 
   pub taken_only : (fields_of w).remembered ≡ 1 → to < v.spaces.old_end
-  taken_only on = ltb-true to v.spaces.old_end (and_parts _ (names_over v.spaces.old_end ((store_of v).cell from)) (bit_on _ (sym (ap (λ (f : Fields). f.remembered) takes.fields) ∙ on))).0
+  taken_only on =
+      let c = start-in heap_to v.words (chunks_of v) to (there_starts ((store_of v).cell to) (ordinary_there (store_of v) to target)) in
+      let was : is_remembered v.words to ≡ true → to < v.spaces.old_end = λ bit.
+      let low = (whole.remembered.only c.0 (listed (chunks_of v) c.0 c.1) (ap (is_remembered v.words) c.2 ∙ bit)).0 in
+      omega (arith, low, c.2) in
+      remembers_only v to from was (bit_on _ (sym (ap (λ (f : Fields). f.remembered) takes.fields) ∙ on))
 
   module _ (slots : length (body_in v from).words ≡ length (body_in v to).words) where
     pub taken_slots : slots_at v.words to ≡ length (body_in v from).words

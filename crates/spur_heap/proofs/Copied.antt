@@ -1,9 +1,11 @@
 -- An ordinary object gets the contents of another: what the heap stands for then.
-use Rattle.std.proofs.Common.{◌≡◌, ℕ, ◌+◌, ◌<◌, ◌≤◌, List, length, get_or, set, sym, ap, ◌∙◌, arith, inl, inr}
+use Rattle.std.proofs.Common.{◌≡◌, ℕ, true, eqb, ◌+◌, ◌<◌, ◌≤◌, List, length, get_or, set, sym, ap, ◌∙◌, arith, inl, inr}
 use Rattle.std.proofs.lemmas.List.{length-set, get_or-set_same, get_or-set_other}
 use Rattle.object_header.specs.Chunks.{slots_at, StandsAt}
 use Rattle.spur_graph.specs.Graph.{with_node}
 use Rattle.spur_graph.specs.Heaps.{View, IsWhole, store_of, chunks_of, heap_value, heap_graph, heap_room}
+use Rattle.object_header.specs.Fields.{Fields}
+use Rattle.heap_cells.proofs.CellKinds.{there_starts}
 use Rattle.heap_cells.proofs.ObjectReads.{object-slots, object-word, object-stands}
 use Rattle.heap_cells.proofs.ObjectRewrites.{IsRewritten}
 use Rattle.spur_heap.specs.Contents.{TakesHeader}
@@ -11,13 +13,16 @@ use Rattle.spur_heap.specs.Exchanging.{CanTake}
 use Rattle.spur_heap.specs.Fresh.{SameOutside}
 use Rattle.spur_heap.specs.Outside.{IsOutside}
 use Rattle.spur_heap.specs.Views.{IsOrdinary, IsGood, node_in}
-use Rattle.spur_heap.specs.Words.{body_in}
+use Rattle.spur_heap.specs.Remembering.{must_with}
+use Rattle.spur_heap.specs.Swaps.{remembers}
+use Rattle.spur_heap.specs.Words.{body_in, starts_at}
+use Rattle.spur_heap.proofs.ExchangedHeaders.{bit_told}
 use Rattle.spur_heap.proofs.Orders.{order}
 use Rattle.spur_heap.proofs.Puts.{whole_sound, object, start_inside}
-use Rattle.spur_heap.proofs.Tables.{SameTables}
+use Rattle.spur_heap.proofs.Tables.{SameTables, NotesToo}
 use Rattle.spur_heap.proofs.Unentered.{no_class}
 use Rattle.spur_heap.proofs.Contents.{taken, taken_node, unpinned, unawaited}
-use Rattle.spur_heap.proofs.Overwritten.{Overwrite, overwritten_whole, overwritten_tables, overwritten_chunks, overwritten_ordinary, overwritten_good, overwritten_value, overwritten_graph, overwritten_room, overwritten_others}
+use Rattle.spur_heap.proofs.Overwritten.{Overwrite, overwritten_whole, overwritten_tables, overwritten_notes, overwritten_chunks, overwritten_ordinary, overwritten_good, overwritten_value, overwritten_graph, overwritten_room, overwritten_others}
 
 -- ---- where the runs stand
 
@@ -96,6 +101,14 @@ module _ {v : View} {from to hash : ℕ} {new : List ℕ} (k : HasCopied v from 
 
   pub copied_tables : SameTables v copied
   copied_tables = overwritten_tables v to k.word xs new overwrite rewritten
+
+  pub copied_notes : NotesToo v copied (must_with v to from) to
+  copied_notes =
+      overwritten_notes v to k.word xs new overwrite rewritten (must_with v to from)
+      (ap (λ (f : Fields). eqb f.remembered 1) k.takes.fields ∙ bit_told (remembers v to from))
+
+  pub target_starts : starts_at v to ≡ true
+  target_starts = there_starts ((store_of v).cell to) (object v k.whole to k.target)
 
   pub copied_chunks : chunks_of copied ≡ chunks_of v
   copied_chunks = overwritten_chunks v to k.word xs new overwrite rewritten

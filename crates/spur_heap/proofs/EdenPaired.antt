@@ -15,9 +15,11 @@ use Rattle.spur_heap.specs.Pairing.{MakesPair}
 use Rattle.spur_heap.specs.declared.allocation.TheConstants.{BLANK_CLASS, BLANK_FORMAT}
 use Rattle.spur_heap.proofs.EdenServed.{IsGrown, served_eden, eden_serves, grows, eden_whole, eden_adds, eden_lists, room_is}
 use Rattle.spur_heap.proofs.Figures.{eden_room}
+use Rattle.spur_heap.proofs.NotedMade.{eden_noted}
 use Rattle.spur_heap.proofs.Orders.{order}
 use Rattle.spur_heap.proofs.Paired.{WritesPair, AddsPair, can_blank, outside_both, outside_chunk, pair_made}
 use Rattle.spur_heap.proofs.Puts.{whole_sound}
+use Rattle.spur_heap.proofs.Tables.{SameNoted}
 
 pub record IsGrownPair (v : View) (mid new : List ℕ) (first second : ℕ) : Type 0 where
   pub whole : IsWhole v
@@ -129,3 +131,6 @@ module _ {v : View} {mid new : List ℕ} {first second : ℕ} (k : IsGrownPair v
 
   pub eden_pair_lists : (free : FreeLists) → Lists v.words free (free_runs v.words (old_row v.words v.spaces)) → Lists new free (free_runs new (old_row new u.spaces))
   eden_pair_lists free l = eden_lists two free (eden_lists one free l)
+
+  pub eden_pair_noted : SameNoted v u
+  eden_pair_noted = subst (λ used. SameNoted v (with_used used)) same_use (λ x. eden_noted two x ∙ eden_noted one x)

@@ -5,8 +5,8 @@ use Rattle.spur_graph.specs.Cells.{lead}
 use Rattle.spur_graph.specs.Ordinary.{class_limit, page_entries, page_of, entry}
 use Rattle.spur_graph.specs.Heaps.{View, store_of, heap_value}
 use Rattle.heap_cells.proofs.Bodies.{all_pointers}
-use Rattle.heap_cells.proofs.CellKinds.{there_is}
-use Rattle.spur_heap.specs.Words.{AreSound, body_in, is_good}
+use Rattle.heap_cells.proofs.CellKinds.{there_is, there_starts}
+use Rattle.spur_heap.specs.Words.{AreSound, starts_at, body_in, is_good}
 use Rattle.spur_heap.specs.Views.{follows}
 use Rattle.spur_heap.specs.Entering.{HasPage}
 use Rattle.spur_heap.specs.Following.{IsFollowed, IsFollowedEntry}
@@ -19,6 +19,9 @@ module _ (v : View) (k : AreSound v) (index : ℕ) (below : index < class_limit)
   -- the start of its page
   abbrev pub start : ℕ
   start = page_start v k index below paged
+
+  pub start_starts : starts_at v start ≡ true
+  start_starts = there_starts ((store_of v).cell start) (at_page v k index below paged).there
 
   the_entry : HasEntry v index
   the_entry = an_entry v k index below (λ e. false≢true (sym (no_page v k index e) ∙ has v k index below paged))

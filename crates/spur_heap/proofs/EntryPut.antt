@@ -13,20 +13,20 @@ use Rattle.heap_cells.specs.Settled.{word_of}
 use Rattle.heap_cells.proofs.Below.{at-named}
 use Rattle.heap_cells.proofs.CellKinds.{there_is, there_starts}
 use Rattle.heap_cells.proofs.Internals.{IsPageAt}
-use Rattle.spur_heap.specs.Words.{AreSound, body_in}
+use Rattle.spur_heap.specs.Words.{starts_at, AreSound, body_in}
 use Rattle.spur_heap.specs.Views.{IsOrdinary, IsGood}
-use Rattle.spur_heap.specs.Remembering.{remembered_for}
+use Rattle.spur_heap.specs.Remembering.{must_remember, remembered_for}
 use Rattle.spur_heap.specs.Entering.{CanEnter}
 use Rattle.spur_heap.proofs.OneCell.{with_cell}
 use Rattle.spur_heap.proofs.Following.{own_lead, own_value}
 use Rattle.spur_heap.proofs.PageAt.{has, page, page_start, at_page}
 use Rattle.spur_heap.proofs.Puts.{whole_sound, fields_are}
 use Rattle.spur_heap.proofs.Touched.{Touch, Keeps, touched_store, touched_whole, touched_graph, touched_room}
-use Rattle.spur_heap.proofs.Tables.{SameTables, touched_tables, tables-trans}
+use Rattle.spur_heap.proofs.Tables.{SameTables, NotesToo, touched_tables, touched_same, tables-trans}
 use Rattle.spur_heap.proofs.InPlace.{changed}
 use Rattle.spur_heap.proofs.Swap.{internal-same, ordinary-same, reference-same, good-same, mourners_kept, fires_alike}
 use Rattle.spur_heap.proofs.Graphs.{read-same, room-same}
-use Rattle.spur_heap.proofs.Written.{Slot, body_then, then, slot_touch, slot_fits}
+use Rattle.spur_heap.proofs.Written.{bit_kept, Slot, body_then, then, slot_touch, slot_fits}
 use Rattle.spur_heap.proofs.Storing.{RemembersFor, remembers_for}
 use Rattle.spur_heap.proofs.ClassTable.{no_entry}
 use Rattle.spur_heap.proofs.Entered.{Enters, entered_alike, entered_swap, entered_sound, length_is, graph-entered}
@@ -120,6 +120,14 @@ module _ (v : View) (whole : IsWhole v) (index start : ℕ) (can : CanEnter v in
   entered_tables =
       tables-trans v u entered_at r.tables
       (touched_tables u entered_at.words start_of_page (There (body_then u start_of_page slot entry_word)) touch (there_starts ((store_of u).cell start_of_page) places.object) refl (ordinary-same (entered_swap enters_then)))
+
+  pub entered_notes : NotesToo v entered_at (must_remember v start_of_page entry_word) start_of_page
+  entered_notes t =
+      touched_same u entered_at.words start_of_page (There (body_then u start_of_page slot entry_word)) touch (there_starts ((store_of u).cell start_of_page) places.object) refl
+      (bit_kept u start_of_page slot entry_word places) t ∙ r.notes t
+
+  pub page_starts : starts_at v start_of_page ≡ true
+  page_starts = there_starts ((store_of v).cell start_of_page) there.there
 
   store-entered : store_of entered_at ≡ changed (store_of u) start_of_page (body_then u start_of_page slot entry_word)
   store-entered = touched_store u entered_at.words start_of_page (There (body_then u start_of_page slot entry_word)) touch

@@ -1,5 +1,5 @@
 -- Two objects that can change contents where they stand, and what the heap is once they did.
-use Rattle.std.proofs.Common.{◌≡◌, ◌⊎◌, ℕ, false, cond, ◌+◌, ◌-◌, ◌<◌, ◌≤◌, max, List, length, get_or, set, refl, sym, ap, ◌∙◌, subst, arith, nat_eq}
+use Rattle.std.proofs.Common.{◌≡◌, ◌⊎◌, ℕ, false, cond, ◌+◌, ◌-◌, ◌<◌, ◌≤◌, max, List, length, get_or, set, refl, sym, ap, ◌∙◌, subst, arith, nat_eq, eqb, ◌&&◌, ◌||◌}
 use Rattle.std.proofs.lemmas.Bool.{eqb-true, and_parts}
 use Rattle.std.specs.Bool.{beq}
 use Rattle.object_header.specs.Fields.{fields_of}
@@ -29,7 +29,9 @@ use Rattle.spur_heap.proofs.ExchangedPlace.{Gets, IsHeaderFor}
 use Rattle.spur_heap.proofs.ExchangedHeaders.{is_header, bits_kept, bit_then, remembers_all, remembers_only}
 use Rattle.spur_heap.proofs.ExchangedWords.{AreRuns, now, now_long, now_out, now_first, now_second, head_first, head_second}
 use Rattle.spur_heap.proofs.Exchanged.{Exchanges, Marks, exchanged_whole}
-use Rattle.spur_heap.proofs.ExchangedGraph.{exchanged_ordinary, exchanged_good, exchanged_value, exchanged_graph, exchanged_room, exchanged_tables}
+use Rattle.spur_heap.specs.Parts.{is_noted}
+use Rattle.spur_heap.specs.Remembering.{must_with}
+use Rattle.spur_heap.proofs.ExchangedGraph.{exchanged_notes, exchanged_ordinary, exchanged_good, exchanged_value, exchanged_graph, exchanged_room, exchanged_tables}
 
 -- ---- as many words
 
@@ -53,6 +55,7 @@ are_alike v whole a b first second can =
 pub record HasExchanged (v : View) (a b : ℕ) : Type 0 where
   pub whole : IsWhole (record v { words = exchanged_words v a b })
   pub tables : SameTables v (record v { words = exchanged_words v a b })
+  pub notes : (t : ℕ) → is_noted (record v { words = exchanged_words v a b }) t ≡ ((is_noted v t || (must_with v a b && eqb t a)) || (must_with v b a && eqb t b))
   pub graph : heap_graph (record v { words = exchanged_words v a b }) ≡ exchange (heap_graph v) a b
   pub room : heap_room (record v { words = exchanged_words v a b }) ≡ heap_room v
   pub values : (w : ℕ) → heap_value (record v { words = exchanged_words v a b }) w ≡ heap_value v w
@@ -156,6 +159,9 @@ module _ (v : View) (whole : IsWhole v) (c d : Chunk) (in_c : In (chunks_of v) c
       record {
         whole = subst (λ (u : View). IsWhole u) same (exchanged_whole exchanges);
         tables = subst (λ (u : View). SameTables v u) same (exchanged_tables exchanges);
+        notes = λ t. sym (ap (λ (u : View). is_noted u t) same)
+            ∙ exchanged_notes exchanges (must_with v c.start d.start) (must_with v d.start c.start)
+            (ap (λ w. nat_eq (fields_of w).remembered 1) head_c ∙ bit_then v c.start d.start) (ap (λ w. nat_eq (fields_of w).remembered 1) head_d ∙ bit_then v d.start c.start) t;
         graph = sym (ap heap_graph same) ∙ exchanged_graph exchanges;
         room = sym (ap heap_room same) ∙ exchanged_room exchanges;
         values = λ w. sym (ap (λ (u : View). heap_value u w) same) ∙ exchanged_value exchanges w;

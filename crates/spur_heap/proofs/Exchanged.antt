@@ -175,7 +175,7 @@ module _ {v : View} {new : List ℕ} {c d : Chunk} (k : Exchanges v new c d) whe
   over_then : (e : Chunk) (n : ℕ) → is_object v e.start ≡ true → names_over v.spaces.old_end (There (with_hash (body_in v e.start) n)) ≡ names_over v.spaces.old_end (old.cell e.start)
   over_then e n object = over_hash v.spaces.old_end (body_in v e.start) n ∙ ap (names_over v.spaces.old_end) (sym (there_is (old.cell e.start) object))
 
-  bit_third : (e : Chunk) → In (chunks_of v) e → e.start ≢ c.start → e.start ≢ d.start → is_remembered new e.start ≡ is_remembered v.words e.start
+  pub bit_third : (e : Chunk) → In (chunks_of v) e → e.start ≢ c.start → e.start ≢ d.start → is_remembered new e.start ≡ is_remembered v.words e.start
   bit_third e m p q = same_bit v.words new e.start (header_third e m p q)
 
   suits : Suits v new behind.cell

@@ -1,20 +1,23 @@
 -- Two ordinary objects of equal words have changed contents: what the heap stands for then, and the tables beside its words.
-use Rattle.std.proofs.Common.{◌≡◌, ◌≢◌, ℕ, false, length, sym, ap, ◌∙◌}
-use Rattle.std.proofs.lemmas.Bool.{false≢true}
+use Rattle.std.proofs.Common.{◌≡◌, ◌≢◌, ℕ, Bool, true, false, ◌&&◌, ◌||◌, eqb, length, refl, sym, ap, ◌∙◌, subst, inl, inr}
+use Rattle.std.proofs.lemmas.Bool.{false≢true, cases_Bool, cases_eq, eq-eqb, ne_eqb, and_right}
 use Rattle.object_header.specs.Chunks.{Chunk}
 use Rattle.spur_graph.specs.Become.{exchange}
 use Rattle.spur_graph.specs.Graph.{node, with_node}
 use Rattle.spur_graph.specs.Node.{Node}
-use Rattle.spur_graph.specs.Cells.{Store}
+use Rattle.spur_graph.specs.Cells.{Store, is_start}
 use Rattle.spur_graph.specs.Spaces.{old_row, eden_row, past_row}
 use Rattle.spur_graph.specs.Ordinary.{is_ordinary, is_good_word}
 use Rattle.spur_graph.specs.CellGraph.{read, node_of}
-use Rattle.spur_graph.specs.Heaps.{View, store_of, chunks_of, heap_value, heap_graph, heap_room, own_name}
+use Rattle.spur_graph.specs.Heaps.{View, store_of, chunks_of, heap_to, heap_value, heap_graph, heap_room, own_name, is_remembered}
+use Rattle.heap_cells.proofs.Cutting.{start-in}
 use Rattle.heap_cells.proofs.CellKinds.{there_starts}
 use Rattle.heap_cells.proofs.Members.{start_of_chunk}
 use Rattle.heap_cells.proofs.References.{ordinary_there}
 use Rattle.spur_heap.specs.Words.{is_good, body_in, starts_at}
+use Rattle.spur_heap.specs.Parts.{is_noted}
 use Rattle.spur_heap.specs.Views.{IsOrdinary}
+use Rattle.spur_heap.proofs.Noted.{or_false, and_true}
 use Rattle.spur_heap.proofs.Nodes.{node_fields}
 use Rattle.spur_heap.proofs.NodesAt.{node_there}
 use Rattle.spur_heap.proofs.Swap.{ordinary-same, good-same}
@@ -24,7 +27,7 @@ use Rattle.spur_heap.proofs.Tables.{SameTables}
 use Rattle.spur_heap.proofs.Rearranged.{arranged, arranged_store, arranged_graph, arranged_room}
 use Rattle.spur_heap.proofs.RearrangedTables.{arranged_tables}
 use Rattle.spur_heap.proofs.OtherHash.{with_hash, node_hash}
-use Rattle.spur_heap.proofs.Exchanged.{Exchanges, behind, second_then, change_first, change_second, rearranges, other_words, starts_then}
+use Rattle.spur_heap.proofs.Exchanged.{Exchanges, behind, second_then, change_first, change_second, rearranges, other_words, starts_then, bit_third}
 
 -- the node of an object with the hash of another
 given_hash : (v : View) (s t : ℕ) → IsOrdinary v s → IsOrdinary v t
@@ -77,3 +80,39 @@ module _ {v : View} {new : _} {c d : Chunk} (k : Exchanges v new c d) where
         same = λ e m off. other_words k e m (apart_free c.start k.first e off) (apart_free d.start k.second e off);
       })
       (λ t. ordinary-same (swap_of (change_second k)) t ∙ ordinary-same (swap_of (change_first k)) t)
+
+  -- ---- the remembered starts, where each of the two places is remembered besides where it has to be
+
+  start_then : (t : ℕ) → starts_at then t ≡ starts_at v t
+  start_then t = ap (λ (h : Store). is_start (h.cell t)) store_is ∙ starts_then k t
+
+  other_noted : (t : ℕ) → t ≢ c.start → t ≢ d.start → is_noted then t ≡ is_noted v t
+  other_noted t n m = ap (λ b. b && is_remembered new t) (start_then t) ∙ elim (cases_Bool (starts_at v t)) [
+    | inl on ↦
+        let e = start-in heap_to v.words (chunks_of v) t on in
+        ap (λ b. starts_at v t && b) (subst (λ u. is_remembered new u ≡ is_remembered v.words u) e.2 (bit_third k e.0 e.1 (λ q. n (sym e.2 ∙ q)) (λ q. m (sym e.2 ∙ q))))
+    | inr off ↦ (λ i. off i && is_remembered new t) ∙ sym (λ i. off i && is_remembered v.words t)
+  ]
+
+  -- the place of one of the two
+  place_noted : (t s : ℕ) (on : Bool) → t ≡ s → starts_at v s ≡ true → is_remembered new s ≡ (is_remembered v.words s || on) → is_noted then t ≡ (is_noted v t || on)
+  place_noted t s on e there bit =
+      let here : starts_at v t ≡ true = ap (starts_at v) e ∙ there in
+      ap (λ b. b && is_remembered new t) (start_then t ∙ here) ∙ ap (is_remembered new) e ∙ bit ∙ ap (λ u. is_remembered v.words u || on) (sym e)
+      ∙ (λ i. (sym here i && is_remembered v.words t) || on)
+
+  pub exchanged_notes : (m n : Bool) → is_remembered new c.start ≡ (is_remembered v.words c.start || m) → is_remembered new d.start ≡ (is_remembered v.words d.start || n)
+      → (t : ℕ) → is_noted then t ≡ ((is_noted v t || (m && eqb t c.start)) || (n && eqb t d.start))
+  exchanged_notes m n bit_c bit_d t = elim (cases_eq t c.start) [
+    | inl e ↦
+        place_noted t c.start m e (there_starts ((store_of v).cell c.start) (ordinary_there (store_of v) c.start k.first)) bit_c
+        ∙ sym ((λ i. (is_noted v t || (ap (λ b. m && b) (eq-eqb t c.start e) ∙ and_true m) i) || (ap (λ b. n && b) (ne_eqb t d.start (λ q. k.apart (sym e ∙ q))) ∙ and_right n false refl) i) ∙ or_false (is_noted v t || m))
+    | inr p ↦ elim (cases_eq t d.start) [
+      | inl e ↦
+          place_noted t d.start n e (there_starts ((store_of v).cell d.start) (ordinary_there (store_of v) d.start k.second)) bit_d
+          ∙ sym ((λ i. (is_noted v t || (ap (λ b. m && b) (ne_eqb t c.start p) ∙ and_right m false refl) i) || (ap (λ b. n && b) (eq-eqb t d.start e) ∙ and_true n) i) ∙ ap (λ b. b || n) (or_false (is_noted v t)))
+      | inr q ↦
+          other_noted t p q
+          ∙ sym ((λ i. (is_noted v t || (ap (λ b. m && b) (ne_eqb t c.start p) ∙ and_right m false refl) i) || (ap (λ b. n && b) (ne_eqb t d.start q) ∙ and_right n false refl) i) ∙ or_false (is_noted v t || false) ∙ or_false (is_noted v t))
+    ]
+  ]

@@ -14,7 +14,7 @@ bit_fits : (b : Bool) → flag_bit b < 2 ^ 1
 bit_fits true = omega arith
 bit_fits false = omega arith
 
-bit_told : (b : Bool) → nat_eq (flag_bit b) 1 ≡ b
+pub bit_told : (b : Bool) → nat_eq (flag_bit b) 1 ≡ b
 bit_told true = refl
 bit_told false = refl
 

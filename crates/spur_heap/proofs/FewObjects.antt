@@ -10,7 +10,7 @@ use Rattle.spur_heap.specs.Words.{AreSound}
 use Rattle.spur_heap.proofs.Orders.{order}
 
 -- each chunk has two words at least
-few_chunks : (words : List ℕ) (at end : ℕ) (cs : List Chunk) → InOrder words at end cs → at + (length cs + length cs) ≤ end
+pub few_chunks : (words : List ℕ) (at end : ℕ) (cs : List Chunk) → InOrder words at end cs → at + (length cs + length cs) ≤ end
 few_chunks words at end [] t = omega (arith, t)
 few_chunks words at end (c ∷ cs) t =
     let l = head words at end c cs t in

@@ -18,14 +18,14 @@ use Rattle.spur_heap.specs.Heading.{CanHead, KeepsSlots, headed}
 use Rattle.spur_heap.proofs.Puts.{whole_sound, body_is}
 use Rattle.spur_heap.proofs.Touched.{Touch, Fits}
 use Rattle.spur_heap.proofs.Headers.{header_inside, header_read, header_touch}
-use Rattle.spur_heap.proofs.Tables.{SameTables}
+use Rattle.spur_heap.proofs.Tables.{SameTables, SameNoted}
 use Rattle.spur_heap.proofs.Swap.{fires_alike}
 use Rattle.spur_heap.proofs.InPlace.{changed}
 use Rattle.spur_heap.proofs.Changing.{Change, swap_of}
 use Rattle.spur_heap.proofs.Written.{slot_good}
 use Rattle.spur_heap.proofs.Unentered.{no_class}
 use Rattle.spur_heap.proofs.OtherFormat.{count_format, formed_format, node_format}
-use Rattle.spur_heap.proofs.Replaced.{HasFiredThen, replaced_whole, replaced_tables, replaced_ordinary, replaced_good, replaced_value, replaced_graph, replaced_room, replaced_store}
+use Rattle.spur_heap.proofs.Replaced.{replaced_same, HasFiredThen, replaced_whole, replaced_tables, replaced_ordinary, replaced_good, replaced_value, replaced_graph, replaced_room, replaced_store}
 
 module _ (v : View) (whole : IsWhole v) (s : ℕ) (there : IsOrdinary v s) (w : ℕ) (can : CanHead v s w) where
   sound : AreSound v
@@ -126,6 +126,9 @@ module _ (v : View) (whole : IsWhole v) (s : ℕ) (there : IsOrdinary v s) (w : 
 
   pub headed_tables : SameTables v headed_at
   headed_tables = replaced_tables v s headed_at.words body touch change
+
+  pub headed_noted : SameNoted v headed_at
+  headed_noted = replaced_same v s headed_at.words body touch change bit_kept
 
   pub headed_ordinary : (t : ℕ) → is_ordinary (store_of headed_at) t ≡ is_ordinary (store_of v) t
   headed_ordinary = replaced_ordinary v s headed_at.words body touch change

@@ -35,7 +35,7 @@ use Rattle.spur_heap.proofs.Hops.{start_at}
 use Rattle.spur_heap.proofs.OneCell.{with_cell}
 use Rattle.spur_heap.proofs.Orders.{order}
 use Rattle.spur_heap.proofs.Puts.{whole_sound}
-use Rattle.spur_heap.proofs.Tables.{HasFreeLists, touched_starts, touched_lists}
+use Rattle.spur_heap.proofs.Tables.{SameNoted, touched_same, HasFreeLists, touched_starts, touched_lists}
 use Rattle.spur_heap.proofs.Touched.{Touch, Holds, Fits, touched_store, held_whole, touched_graph, touched_room}
 
 -- the header of a forwarder has the bits of the object's
@@ -175,6 +175,9 @@ module _ (u : View) (whole : IsWhole u) (a b : ℕ) (k : Forwards (store_of u) a
       ∙ room-forwarded k (old_row u.words u.spaces) (eden_row u.words u.spaces) (past_row u.words u.spaces) (among a start) (among b start_to) u.spaces.old_end u.limits u.spaces.eden_used u.spaces.past_used
 
   -- ---- the tables
+
+  pub led_noted : SameNoted u (leading u a b)
+  led_noted = touched_same u new a (Moved b) led_touch start refl bit_kept
 
   pub led_starts : (t : ℕ) → starts_at (leading u a b) t ≡ starts_at u t
   led_starts = touched_starts u new a (Moved b) led_touch start refl

@@ -1,5 +1,5 @@
 -- An object of a heap becomes a forwarder to another: first it is remembered where it has to be, then it leads there.
-use Rattle.std.proofs.Common.{◌≡◌, ◌≢◌, ℕ, Bool, cond, ◌+◌, ◌-◌, ◌^◌, ◌<◌, List, length, refl, sym, ap, ◌∙◌, subst, arith, inl, inr}
+use Rattle.std.proofs.Common.{◌≡◌, ◌≢◌, ℕ, Bool, true, cond, ◌+◌, ◌-◌, ◌^◌, ◌<◌, List, length, refl, sym, ap, ◌∙◌, subst, arith, inl, inr}
 use Rattle.std.proofs.lemmas.Bool.{cases_Bool}
 use Rattle.spur_graph.specs.Names.{rename}
 use Rattle.spur_graph.specs.Become.{instead, redirect, room_redirected}
@@ -12,16 +12,18 @@ use Rattle.heap_cells.specs.Settled.{word_of}
 use Rattle.heap_cells.proofs.Forwarding.{Forwards}
 use Rattle.heap_cells.proofs.ForwardedSound.{MayMourn}
 use Rattle.spur_heap.specs.declared.heap.HeapParts.{HeapParts}
-use Rattle.spur_heap.specs.Parts.{view_of, ArePartsOfHeap}
+use Rattle.spur_heap.specs.Parts.{view_of, is_noted, ArePartsOfHeap}
+use Rattle.spur_heap.specs.Tables.{IsTableOf}
 use Rattle.spur_heap.specs.Words.{starts_at}
 use Rattle.spur_heap.specs.Views.{IsOrdinary, IsGood}
-use Rattle.spur_heap.specs.Remembering.{must_remember, remembered_at, remembered_for}
+use Rattle.spur_heap.specs.Remembering.{CanNote, must_remember, noted, remembered_at, remembered_for}
 use Rattle.spur_heap.specs.Forwarders.{leading, led_to}
 use Rattle.spur_heap.proofs.Forwardable.{CanLead, forwards, may_mourn}
-use Rattle.spur_heap.proofs.Led.{led_touch, led_whole, led_ordinary, led_good, led_value, led_graph, led_room, led_starts, led_lists, led_count}
-use Rattle.spur_heap.proofs.Puts.{object, start_inside}
+use Rattle.spur_heap.proofs.Led.{led_touch, led_noted, led_whole, led_ordinary, led_good, led_value, led_graph, led_room, led_starts, led_lists, led_count}
+use Rattle.spur_heap.proofs.Puts.{object, start_there, start_inside}
 use Rattle.spur_heap.proofs.Storing.{RemembersFor, remembers_for}
-use Rattle.spur_heap.proofs.Tables.{HasFreeLists, tables_kept}
+use Rattle.spur_heap.proofs.Noted.{table_same}
+use Rattle.spur_heap.proofs.Tables.{HasFreeLists, NotesToo, tables_kept, noting_table, can_note_at}
 
 -- no field but the words is another
 remembered_view : (v : View) (s w : ℕ) → remembered_for v s w ≡ record v { words = (remembered_for v s w).words }
@@ -73,6 +75,12 @@ module _ (v : View) (whole : IsWhole v) (a b : ℕ) (can : CanLead v a b) where
   pub led_to_long : length (led_to v a b).words ≡ length v.words
   led_to_long = (led_touch mid remembering.whole a b forwards_then may_then remembering.bit).long ∙ remembering.tables.long
 
+  pub led_to_notes : NotesToo v (led_to v a b) (must_remember v a (word_of b)) a
+  led_to_notes t = led_noted mid remembering.whole a b forwards_then may_then remembering.bit t ∙ remembering.notes t
+
+  pub from_starts : starts_at v a ≡ true
+  from_starts = start_there v whole a can.from
+
   pub led_to_starts : (t : ℕ) → starts_at (led_to v a b) t ≡ starts_at v t
   led_to_starts t = led_starts mid remembering.whole a b forwards_then may_then remembering.bit t ∙ remembering.tables.starts t
 
@@ -91,13 +99,16 @@ module _ (p : HeapParts) (k : ArePartsOfHeap p) (v : View) (same : view_of p ≡
   pub from_inside : a + 1 < length p.region
   from_inside = let low = start_inside v whole a can.from in let long : length p.region ≡ length v.words = ap (λ (u : View). length u.words) same in omega (arith, low, long)
 
+  pub from_can : CanNote p a
+  from_can = can_note_at p k v same a (from_starts v whole a b can)
+
   pub to_small : b < 2 ^ 27
   to_small = let low = start_inside v whole b can.to in let few = whole.few in omega (arith, low, few)
 
   pub some_objects : p.objects ≡ length (ordinary_starts (store_of (led_to v a b))) + 1
   some_objects = k.objects.count ∙ ap (λ (u : View). length (ordinary_starts (store_of u))) same ∙ led_to_count v whole a b can
 
-  module _ (q : HeapParts) (is : q ≡ record p { region = (led_to (view_of p) a b).words }) (mark : Bool) where
+  module _ (q : HeapParts) (is : q ≡ record p { region = (led_to (view_of p) a b).words; remembered = noted (view_of p) (must_remember (view_of p) a (word_of b)) a p.remembered }) (mark : Bool) where
     abbrev pub then : HeapParts
     then = record q { objects = q.objects - 1; forwarders = mark }
 
@@ -126,6 +137,11 @@ module _ (p : HeapParts) (k : ArePartsOfHeap p) (v : View) (same : view_of p ≡
                 (let c = some_objects in let n : q.objects ≡ p.objects = ap (λ (r : HeapParts). r.objects) is in
                 let less : q.objects - 1 ≡ length (ordinary_starts (store_of (led_to v a b))) = omega (arith, c, n) in less)
                 ∙ ap (λ (u : View). length (ordinary_starts (store_of u))) (sym told);
+          };
+          remembered = record {
+            table = table_same (λ t. ap (λ (u : View). is_noted u t) told) (ap (λ (u : View). length u.words) told ∙ led_to_long v whole a b can ∙ ap (λ (u : View). length u.words) (sym same))
+                (subst (λ table. IsTableOf (is_noted (led_to v a b)) (length p.region) table) (sym (ap (λ (r : HeapParts). r.remembered) is))
+                (noting_table p k v (led_to v a b) same (λ (u : View). must_remember u a (word_of b)) a (from_starts v whole a b can) (led_to_notes v whole a b can)));
           };
           tables = tables_kept p then k.tables
               (ap (λ (u : View). length u.words) told ∙ led_to_long v whole a b can ∙ ap (λ (u : View). length u.words) (sym same))

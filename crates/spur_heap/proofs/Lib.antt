@@ -72,6 +72,8 @@ pub mod Allocated
 pub mod Groups
 pub mod Mourned
 pub mod FewMourners
+pub mod Noted
+pub mod NotedMade
 pub mod Requeued
 pub mod Dequeued
 pub mod Paired

@@ -24,8 +24,8 @@ use Rattle.spur_heap.specs.MarkBits.{IsObject, with_mark, marked}
 use Rattle.spur_heap.proofs.Puts.{whole_sound}
 use Rattle.spur_heap.proofs.Touched.{Fits}
 use Rattle.spur_heap.proofs.Headers.{header_inside, header_read}
-use Rattle.spur_heap.proofs.Tables.{SameTables, parts_with}
-use Rattle.spur_heap.proofs.SameCell.{TellSame, same_tables, same_store, same_whole, same_graph, same_room}
+use Rattle.spur_heap.proofs.Tables.{SameTables, SameNoted, parts_same}
+use Rattle.spur_heap.proofs.SameCell.{TellSame, same_tables, same_noted, same_store, same_whole, same_graph, same_room}
 
 -- the mark bit is this one, and every other field of the header is as before
 pub record SetsMark (old bit new : ℕ) : Type 0 where
@@ -103,6 +103,9 @@ module _ (v : View) (whole : IsWhole v) (s : ℕ) (object : IsObject v s) where
   pub marked_tables : SameTables v (marked v s)
   marked_tables = same_tables v k s object (with_mark word) same
 
+  pub marked_noted : SameNoted v (marked v s)
+  marked_noted = same_noted v k s object (with_mark word) same bit_same
+
   pub marked_store : store_of (marked v s) ≡ store_of v
   marked_store = same_store v k s object (with_mark word) same
 
@@ -120,7 +123,8 @@ marked_seen p v same s new is = (λ x. view_of (record p { region = is x })) ∙
 
 pub marked_parts : (p : HeapParts) → ArePartsOfHeap p → (v : View) → view_of p ≡ v → (whole : IsWhole v) (s : ℕ) (object : IsObject v s) → v.phase ≡ Marked → (new : List ℕ) → new ≡ set p.region s (with_mark (get_or p.region s 0))
     → ArePartsOfHeap (record p { region = new })
-marked_parts p k v same whole s object phase new is = parts_with p k v (marked v s) same new (marked_seen p v same s new is) (marked_whole v whole s object phase) (marked_tables v whole s object)
+marked_parts p k v same whole s object phase new is =
+    parts_same p k v (marked v s) same new (marked_seen p v same s new is) (marked_whole v whole s object phase) (marked_tables v whole s object) (marked_noted v whole s object)
 
 -- ---- another phase, and another mark stack
 
@@ -153,6 +157,7 @@ rephased_parts p k phase marks places bits = record {
   map = record { starts = k.map.starts; covers = k.map.covers };
   free_chunks = record { lists = k.free_chunks.lists };
   objects = record { count = k.objects.count };
+  remembered = record { table = k.remembered.table };
   tables = record {
     taken = k.tables.taken;
     grouped = k.tables.grouped;

@@ -1,5 +1,5 @@
 -- All words of an ordinary object are written, in as many slots as before: what the heap stands for then.
-use Rattle.std.proofs.Common.{◌≡◌, ◌≢◌, ◌⊎◌, ℕ, true, ◌+◌, ◌<◌, ◌≤◌, eqb, List, map, length, get_or, refl, sym, ap, ◌∙◌, subst, arith, inl, inr}
+use Rattle.std.proofs.Common.{◌≡◌, ◌≢◌, ◌⊎◌, ℕ, Bool, true, ◌||◌, ◌+◌, ◌<◌, ◌≤◌, eqb, List, map, length, get_or, refl, sym, ap, ◌∙◌, subst, arith, inl, inr}
 use Rattle.std.proofs.lemmas.Bool.{eqb-true}
 use Rattle.std.specs.List.{Contains}
 use Rattle.object_header.specs.Fields.{fields_of}
@@ -22,10 +22,10 @@ use Rattle.spur_heap.proofs.Orders.{order}
 use Rattle.spur_heap.proofs.Hops.{start_at}
 use Rattle.spur_heap.proofs.Puts.{whole_sound}
 use Rattle.spur_heap.proofs.Touched.{Touch, Fits, same_chunks}
-use Rattle.spur_heap.proofs.Tables.{SameTables}
+use Rattle.spur_heap.proofs.Tables.{SameTables, NotesToo}
 use Rattle.spur_heap.proofs.InPlace.{changed}
 use Rattle.spur_heap.proofs.Changing.{Change, IsNoClass}
-use Rattle.spur_heap.proofs.Replaced.{replaced_whole, replaced_tables, replaced_store, replaced_ordinary, replaced_good, replaced_value, replaced_graph, replaced_room}
+use Rattle.spur_heap.proofs.Replaced.{replaced_whole, replaced_tables, replaced_noted, replaced_store, replaced_ordinary, replaced_good, replaced_value, replaced_graph, replaced_room}
 
 -- a header word and slots for the ordinary object that starts at `s`: formed, of the same count, with good words in the pointer slots. The hash is as
 -- before, or the object is no class. The remembered bit is where it has to be, and what is to stand where a mourner leads has fired
@@ -114,6 +114,9 @@ module _ (v : View) (s w : ℕ) (xs new : List ℕ) (k : Overwrite v s w xs) (is
 
   pub overwritten_tables : SameTables v overwritten
   overwritten_tables = replaced_tables v s new body_now touch change
+
+  pub overwritten_notes : (on : Bool) → eqb (fields_of w).remembered 1 ≡ (is_remembered v.words s || on) → NotesToo v overwritten on s
+  overwritten_notes on is_on = replaced_noted v s new body_now touch change on (bit ∙ is_on)
 
   pub overwritten_store : store_of overwritten ≡ changed (store_of v) s body_now
   overwritten_store = replaced_store v s new body_now touch change

@@ -1,8 +1,8 @@
 -- The parts of a heap once two objects are made side by side: they stand for a heap, which is the one before with both.
-use Rattle.std.proofs.Common.{◌≡◌, ℕ, ◌+◌, ◌<◌, ◌≤◌, ◌^◌, List, length, get_or, refl, sym, ap, ◌∙◌, subst}
+use Rattle.std.proofs.Common.{◌≡◌, ℕ, false, ◌+◌, ◌<◌, ◌≤◌, ◌^◌, List, length, get_or, refl, sym, ap, ◌∙◌, subst}
 use Rattle.spur_graph.specs.Room.{fresh_words}
 use Rattle.spur_graph.specs.Spaces.{old_row}
-use Rattle.spur_graph.specs.Heaps.{View, heap_room}
+use Rattle.spur_graph.specs.Heaps.{View, heap_room, is_remembered}
 use Rattle.free_lists.specs.Rows.{free_runs}
 use Rattle.free_lists.specs.Lists.{IsOutside, Takes}
 use Rattle.free_lists.specs.declared.lists.FreeLists.{FreeLists}
@@ -10,10 +10,14 @@ use Rattle.spur_heap.specs.declared.heap.HeapParts.{HeapParts}
 use Rattle.spur_heap.specs.Parts.{view_of, ArePartsOfHeap}
 use Rattle.spur_heap.specs.Fresh.{fresh_start}
 use Rattle.spur_heap.specs.Pairing.{MakesPair, PutsPair}
-use Rattle.spur_heap.proofs.EdenPaired.{IsGrownPair, eden_pair_whole, eden_pair_adds, eden_pair_lists, eden_pair_makes}
+use Rattle.spur_heap.specs.declared.allocation.TheConstants.{BLANK_CLASS, BLANK_FORMAT}
+use Rattle.spur_heap.proofs.EdenPaired.{IsGrownPair, eden_pair_whole, eden_pair_adds, eden_pair_lists, eden_pair_makes, eden_pair_noted}
+use Rattle.spur_heap.proofs.FreshRuns.{fresh_is_forgotten}
 use Rattle.spur_heap.proofs.Needs.{eden_fits}
 use Rattle.spur_heap.proofs.OldPaired.{old_pair_whole, old_pair_adds, old_pair_lists, old_pair_makes}
-use Rattle.spur_heap.proofs.Paired.{WritesPair, AddsPair, outside_both, pair_count, pair_starts}
+use Rattle.spur_heap.proofs.Noted.{table_same}
+use Rattle.spur_heap.proofs.NotedMade.{pair_noted, served_starts}
+use Rattle.spur_heap.proofs.Paired.{WritesPair, AddsPair, first_stays, outside_both, pair_count, pair_starts}
 use Rattle.spur_heap.proofs.Served.{IsServed}
 use Rattle.spur_heap.proofs.Tables.{tables_kept}
 
@@ -70,6 +74,12 @@ module _ (p : HeapParts) (k : ArePartsOfHeap p) (first second : ℕ) (few_first 
     adds : AddsPair v q.region v.spaces first second s t
     adds = at_places at first second s t puts.one.place puts.two.place (λ a b. AddsPair v q.region v.spaces first second a b) (old_pair_adds served few_first few_second writes)
 
+    first_forgotten : is_remembered q.region s ≡ false
+    first_forgotten = ap (is_remembered q.region) puts.one.place ∙ fresh_is_forgotten q.region at BLANK_CLASS BLANK_FORMAT first 0 (first_stays writes)
+
+    second_forgotten : is_remembered q.region t ≡ false
+    second_forgotten = ap (is_remembered q.region) puts.two.place ∙ fresh_is_forgotten q.region (at + fresh_words first) BLANK_CLASS BLANK_FORMAT second 0 writes.two
+
     abbrev after : HeapParts
     after = record before { region = q.region; starts = q.starts; objects = p.objects + 1 + 1 }
 
@@ -82,6 +92,7 @@ module _ (p : HeapParts) (k : ArePartsOfHeap p) (first second : ℕ) (few_first 
       };
       free_chunks = record { lists = old_pair_lists served few_first few_second writes };
       objects = record { count = ap (λ m. m + 1 + 1) k.objects.count ∙ sym (pair_count adds (old_pair_whole served few_first few_second writes)) };
+      remembered = record { table = table_same (pair_noted adds (served_starts served) first_forgotten second_forgotten) (puts.two.long ∙ puts.one.long ∙ long) k.remembered.table };
       tables = tables_kept p after k.tables (puts.two.long ∙ puts.one.long ∙ long) refl;
     }
 
@@ -123,6 +134,7 @@ module _ (p : HeapParts) (k : ArePartsOfHeap p) (first second : ℕ) (few_first 
       };
       free_chunks = record { lists = eden_pair_lists grew p.free k.free_chunks.lists };
       objects = record { count = ap (λ m. m + 1 + 1) k.objects.count ∙ sym (pair_count eden_adds (eden_pair_whole grew)) };
+      remembered = record { table = table_same (eden_pair_noted grew) (puts.two.long ∙ puts.one.long) k.remembered.table };
       tables = tables_kept p then k.tables (puts.two.long ∙ puts.one.long) refl;
     }
 

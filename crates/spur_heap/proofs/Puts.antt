@@ -12,18 +12,19 @@ use Rattle.spur_graph.specs.CellGraph.{node_of}
 use Rattle.spur_graph.specs.Heaps.{View, IsWhole, store_of, heap_value, heap_graph, heap_room, own_name}
 use Rattle.spur_graph.specs.Ordinary.{is_ordinary}
 use Rattle.heap_cells.proofs.Bodies.{method_some}
+use Rattle.heap_cells.proofs.CellKinds.{there_starts}
 use Rattle.heap_cells.proofs.References.{ordinary_there}
 use Rattle.heap_cells.proofs.ObjectReads.{object-body, object-word, object-inside}
 use Rattle.spur_heap.specs.Remembering.{after}
 use Rattle.spur_heap.proofs.Orders.{order}
 use Rattle.spur_heap.specs.Sizes.{IsSize}
-use Rattle.spur_heap.specs.Words.{AreSound, is_object, is_good, body_in, unit_bytes_in, unit_place, unit_word}
+use Rattle.spur_heap.specs.Words.{AreSound, starts_at, is_object, is_good, body_in, unit_bytes_in, unit_place, unit_word}
 use Rattle.spur_heap.specs.Views.{IsOrdinary, IsGood, node_in}
 use Rattle.spur_heap.proofs.UnitRows.{UnitAt}
 use Rattle.spur_heap.proofs.SlotCounts.{at_start, formed, pointers_within, unit_at_place}
 use Rattle.spur_heap.proofs.Nodes.{HasFields, node_fields, node_units, node_unit, node_pointers, node_pointer, node_with_pointer, node_with_unit}
-use Rattle.spur_heap.proofs.Tables.{SameTables}
-use Rattle.spur_heap.proofs.Written.{Write, HasBitFor, body_then, then, whole_written, tables_written, ordinary_kept, good_kept, value_kept, graph_written, room_kept, slot_good, like}
+use Rattle.spur_heap.proofs.Tables.{SameTables, SameNoted}
+use Rattle.spur_heap.proofs.Written.{Write, HasBitFor, body_then, then, whole_written, tables_written, noted_written, ordinary_kept, good_kept, value_kept, graph_written, room_kept, slot_good, like}
 
 pub whole_sound : (v : View) → IsWhole v → AreSound v
 whole_sound v whole = record { spaces = whole.spaces; rows = whole.rows; sound = whole.sound; few = whole.few }
@@ -33,6 +34,9 @@ whole_sound v whole = record { spaces = whole.spaces; rows = whole.rows; sound =
 module _ (v : View) (whole : IsWhole v) (s : ℕ) (there : IsOrdinary v s) where
   pub object : is_object v s ≡ true
   object = ordinary_there (store_of v) s there
+
+  pub start_there : starts_at v s ≡ true
+  start_there = there_starts ((store_of v).cell s) object
 
   words_sound : AreSound v
   words_sound = whole_sound v whole
@@ -141,6 +145,9 @@ module _ (v : View) (whole : IsWhole v) (s : ℕ) (there : IsOrdinary v s) where
 
     pub unit_tables : (value : ℕ) → SameTables v (unit_put value)
     unit_tables value = subst (λ (u : View). SameTables v u) (sym (unit_then value)) (tables_written v s slot (unit_word v s i value) (unit_write value))
+
+    pub unit_noted : (value : ℕ) → SameNoted v (unit_put value)
+    unit_noted value = subst (λ (u : View). SameNoted v u) (sym (unit_then value)) (noted_written v s slot (unit_word v s i value) (unit_write value))
 
     pub unit_graph : (value : ℕ) → value < 2 ^ (8 * unit_bytes_of (node_in v s).format)
         → heap_graph (unit_put value) ≡ with_node (heap_graph v) s (record (node_in v s) { units = set (node_in v s).units i value })

@@ -229,7 +229,7 @@ module _ {v : View} {new : List ℕ} (k : Rebuilds v new) where
   kept_words : (c : Chunk) → In before c → is_free (get_or v.words c.start 0) ≡ false → (j : ℕ) → c.at ≤ j → j < c.at + c.size → get_or new j 0 ≡ get_or v.words j 0
   kept_words c m off j from to = k.others j (kept-outside v.words v.spaces.old_end before in_row c m off j from to)
 
-  rewrites : Rewrites v.words new before
+  pub rewrites : Rewrites v.words new before
   rewrites = record {
     long = k.long;
     free = λ c m on. k.free (c.at, c.size) (listed (free_runs v.words before) (c.at, c.size) (run_in v.words before c m on));

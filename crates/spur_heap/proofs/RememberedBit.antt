@@ -1,6 +1,6 @@
 -- The remembered bit of an object of old space is set.
 use Rattle.std.proofs.Common.{◌≡◌, ℕ, true, ◌<◌, get_or, refl, sym, ap, ◌∙◌, subst, arith, inl, inr}
-use Rattle.std.proofs.lemmas.Bool.{eq-eqb}
+use Rattle.std.proofs.lemmas.Bool.{eq-eqb, or_right}
 use Rattle.object_header.specs.Field.{SetsField, with_field}
 use Rattle.object_header.specs.Fields.{fields_of}
 use Rattle.object_header.proofs.Fields.{SetsField-with_field}
@@ -11,8 +11,8 @@ use Rattle.spur_heap.specs.Words.{AreSound, is_object, body_in}
 use Rattle.spur_heap.specs.Remembering.{with_remembered, remembered_at}
 use Rattle.spur_heap.proofs.Touched.{Fits}
 use Rattle.spur_heap.proofs.Headers.{header_read}
-use Rattle.spur_heap.proofs.Tables.{SameTables}
-use Rattle.spur_heap.proofs.SameCell.{TellSame, same_tables, same_store, same_whole, same_graph, same_room, same_value}
+use Rattle.spur_heap.proofs.Tables.{SameTables, NotesToo}
+use Rattle.spur_heap.proofs.SameCell.{TellSame, same_tables, same_notes, same_store, same_whole, same_graph, same_room, same_value}
 
 -- the bit is set, and every other field of the header is as before
 pub record SetsBit (old new : ℕ) : Type 0 where
@@ -58,6 +58,9 @@ module _ (v : View) (k : AreSound v) (s : ℕ) (object : is_object v s ≡ true)
 
   pub bit_is_set : is_remembered (remembered_at v s).words s ≡ true
   bit_is_set = eq-eqb (fields_of (get_or (remembered_at v s).words s 0)).remembered 1 (ap (λ u. (fields_of u).remembered) here ∙ (sets_bit word).bit)
+
+  pub remembered_notes : NotesToo v (remembered_at v s) true s
+  remembered_notes = same_notes v k s object (with_remembered word) same true (bit_is_set ∙ sym (or_right (is_remembered v.words s) true refl))
 
   fits : s < v.spaces.old_end → Fits v (remembered_at v s).words s (There (body_in v s))
   fits low = record {

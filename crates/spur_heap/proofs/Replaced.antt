@@ -1,11 +1,11 @@
 -- Another object stands in the place of an ordinary one, in the same chunk: what the heap stands for then.
-use Rattle.std.proofs.Common.{◌≡◌, ℕ, true, List, length, refl, sym, ap, ◌∙◌}
+use Rattle.std.proofs.Common.{◌≡◌, ℕ, Bool, true, ◌||◌, List, length, refl, sym, ap, ◌∙◌}
 use Rattle.spur_graph.specs.Graph.{with_node}
 use Rattle.spur_graph.specs.Cells.{Body, There, Store, is_there}
 use Rattle.spur_graph.specs.Spaces.{old_row, eden_row, past_row}
 use Rattle.spur_graph.specs.Ordinary.{is_ordinary, is_good_word}
 use Rattle.spur_graph.specs.CellGraph.{read, node_of}
-use Rattle.spur_graph.specs.Heaps.{View, IsWhole, store_of, chunks_of, heap_value, heap_graph, heap_room, own_name}
+use Rattle.spur_graph.specs.Heaps.{View, IsWhole, store_of, chunks_of, heap_value, heap_graph, heap_room, own_name, is_remembered}
 use Rattle.heap_cells.specs.Rows.{starts_of}
 use Rattle.heap_cells.proofs.CellKinds.{there_starts}
 use Rattle.heap_cells.proofs.Members.{in_list}
@@ -14,7 +14,7 @@ use Rattle.spur_heap.specs.Words.{body_in, is_good}
 use Rattle.spur_heap.proofs.Hops.{start_at}
 use Rattle.spur_heap.proofs.OneCell.{with_cell}
 use Rattle.spur_heap.proofs.Touched.{Touch, Holds, Fits, touched_store, held_whole, touched_graph, touched_room}
-use Rattle.spur_heap.proofs.Tables.{SameTables, touched_tables}
+use Rattle.spur_heap.proofs.Tables.{SameTables, NotesToo, SameNoted, touched_tables, touched_noted, touched_same}
 use Rattle.spur_heap.proofs.InPlace.{changed}
 use Rattle.spur_heap.proofs.Swap.{Swap, Fires, internal-same, ordinary-same, reference-same, good-same, mourners_kept}
 use Rattle.spur_heap.proofs.Changing.{Change, swap_of, sound_changed}
@@ -51,6 +51,12 @@ module _ (v : View) (s : ℕ) (new : List ℕ) (b : Body) (touch : Touch v new s
 
   pub replaced_tables : SameTables v then
   replaced_tables = touched_tables v new s (There b) touch (there_starts ((store_of v).cell s) object) refl (ordinary-same swap)
+
+  pub replaced_same : is_remembered new s ≡ is_remembered v.words s → SameNoted v then
+  replaced_same bit = touched_same v new s (There b) touch (there_starts ((store_of v).cell s) object) refl bit
+
+  pub replaced_noted : (on : Bool) → is_remembered new s ≡ (is_remembered v.words s || on) → NotesToo v then on s
+  replaced_noted on bit = touched_noted v new s (There b) touch (there_starts ((store_of v).cell s) object) refl on bit
 
   pub replaced_ordinary : (t : ℕ) → is_ordinary (store_of then) t ≡ is_ordinary (store_of v) t
   replaced_ordinary t = ap (λ (h : Store). is_ordinary h t) replaced_store ∙ ordinary-same swap t

@@ -47,6 +47,7 @@ table_changed p q k c front m = subst (λ (r : HeapParts). ArePartsOfHeap r) (sy
   map = record { starts = k.map.starts; covers = k.map.covers };
   free_chunks = record { lists = k.free_chunks.lists };
   objects = record { count = k.objects.count };
+  remembered = record { table = k.remembered.table };
   tables = record {
     taken = c.taken;
     grouped = front;

@@ -1,5 +1,5 @@
 -- The header of an object is written anew, and the object stays: only bits that are no part of it change.
-use Rattle.std.proofs.Common.{◌≡◌, ℕ, true, length, get_or, refl, sym, ap, ◌∙◌, subst, inl, inr}
+use Rattle.std.proofs.Common.{◌≡◌, ℕ, Bool, true, ◌||◌, length, get_or, refl, sym, ap, ◌∙◌, subst, inl, inr}
 use Rattle.std.proofs.lemmas.Bool.{cases_eq, eq-eqb, ne_eqb}
 use Rattle.object_header.specs.Chunks.{slots_from}
 use Rattle.object_header.specs.Fields.{fields_of}
@@ -8,7 +8,7 @@ use Rattle.spur_graph.specs.Spaces.{old_row, eden_row, past_row}
 use Rattle.spur_graph.specs.HeapRoom.{room_in}
 use Rattle.spur_graph.specs.Ordinary.{is_ordinary}
 use Rattle.spur_graph.specs.CellGraph.{read}
-use Rattle.spur_graph.specs.Heaps.{View, IsWhole, store_of, heap_value, heap_graph, heap_room, graph_in, own_name}
+use Rattle.spur_graph.specs.Heaps.{View, IsWhole, store_of, heap_value, heap_graph, heap_room, graph_in, own_name, is_remembered}
 use Rattle.heap_cells.proofs.CellKinds.{there_is, there_starts}
 use Rattle.heap_cells.proofs.ObjectReads.{object-body}
 use Rattle.spur_heap.specs.Words.{AreSound, is_object, body_in}
@@ -17,7 +17,7 @@ use Rattle.spur_heap.proofs.Orders.{order}
 use Rattle.spur_heap.proofs.OneCell.{with_cell}
 use Rattle.spur_heap.proofs.Touched.{Touch, Keeps, Fits, touched_store, touched_whole, touched_graph, touched_room}
 use Rattle.spur_heap.proofs.Headers.{header_touch}
-use Rattle.spur_heap.proofs.Tables.{SameTables, touched_tables}
+use Rattle.spur_heap.proofs.Tables.{SameTables, NotesToo, SameNoted, touched_tables, touched_noted, touched_same}
 
 -- both header words tell the same object
 pub record TellSame (old new : ℕ) : Type 0 where
@@ -48,6 +48,12 @@ module _ (v : View) (k : AreSound v) (s : ℕ) (object : is_object v s ≡ true)
 
   pub same_tables : SameTables v (after v s w)
   same_tables = touched_tables v (after v s w).words s (There (body_in v s)) touch (there_starts ((store_of v).cell s) object) refl (λ t. ap (λ (h : Store). is_ordinary h t) same_cell)
+
+  pub same_notes : (on : Bool) → is_remembered (after v s w).words s ≡ (is_remembered v.words s || on) → NotesToo v (after v s w) on s
+  same_notes = touched_noted v (after v s w).words s (There (body_in v s)) touch (there_starts ((store_of v).cell s) object) refl
+
+  pub same_noted : is_remembered (after v s w).words s ≡ is_remembered v.words s → SameNoted v (after v s w)
+  same_noted = touched_same v (after v s w).words s (There (body_in v s)) touch (there_starts ((store_of v).cell s) object) refl
 
   pub same_store : store_of (after v s w) ≡ store_of v
   same_store = touched_store v (after v s w).words s (There (body_in v s)) touch ∙ same_cell

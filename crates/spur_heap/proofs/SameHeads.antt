@@ -1,6 +1,6 @@
 -- The headers of a heap are written anew, and each tells the same: only bits that are no part of a chunk or an object change.
 use Rattle.std.proofs.Common.{◌≡◌, ◌≢◌, ℕ, true, cond, ◌+◌, ◌<◌, ◌≤◌, List, length, get_or, set, take, map, refl, sym, ap, ◌∙◌, subst, arith, inl, inr, nat_eq}
-use Rattle.std.proofs.lemmas.Bool.{cases_eq, cases_lt}
+use Rattle.std.proofs.lemmas.Bool.{false≢true, cases_eq, cases_lt}
 use Rattle.std.proofs.lemmas.List.{length-set, drop-set-lt, get_or-set_same, get_or-set_other}
 use Rattle.std.specs.List.{Contains}
 use Rattle.std.specs.Option.{unwrap_or}
@@ -28,7 +28,7 @@ use Rattle.spur_heap.proofs.FreeRuns.{free_runs_same, covered_by}
 use Rattle.spur_heap.proofs.Orders.{order}
 use Rattle.spur_heap.proofs.Puts.{whole_sound}
 use Rattle.spur_heap.proofs.SameCell.{TellSame}
-use Rattle.spur_heap.proofs.Tables.{SameTables}
+use Rattle.spur_heap.proofs.Tables.{SameTables, SameNoted, noted_from}
 
 same_from : (old new next : ℕ) (ws : List ℕ) → TellSame old new → cell_from (fields_of new) next ws ≡ cell_from (fields_of old) next ws
 same_from old new next ws same = λ x.
@@ -158,6 +158,15 @@ module _ {v : View} {new : List ℕ} (k : SameHeads v new) where
           header = k.whole.header;
           few = let few = k.whole.few in omega (arith, few, k.long);
         }
+
+  -- ---- the remembered starts are the same, where each header has its remembered bit as before
+
+  pub heads_noted : ((c : Chunk) → In (chunks_of v) c → (fields_of (get_or new c.start 0)).remembered ≡ (fields_of (get_or v.words c.start 0)).remembered) → SameNoted v after
+  heads_noted bits = noted_from v after (λ t on.
+      let d = start-in heap_to v.words (chunks_of v) t on in (
+        ap (λ (h : Store). is_start (h.cell t)) heads_store ∙ on,
+        ap (λ u. is_remembered new u) (sym d.2) ∙ ap (λ n. nat_eq n 1) (bits d.0 d.1) ∙ ap (λ u. is_remembered v.words u) d.2,
+      )) (λ t off on. absurd (false≢true (sym off ∙ sym (ap (λ (h : Store). is_start (h.cell t)) heads_store) ∙ on)))
 
   -- ---- the tables are the same, where the headers of free chunks are
 

@@ -9,7 +9,7 @@ use Rattle.spur_graph.specs.CellGraph.{read, node_of}
 use Rattle.spur_graph.specs.Heaps.{View, IsWhole, store_of, heap_to, own_name, is_marked, waiting_in}
 use Rattle.heap_cells.proofs.CellKinds.{there_starts}
 use Rattle.spur_heap.specs.Words.{body_in, is_object, starts_at}
-use Rattle.spur_heap.specs.Remembering.{remembered_for, stored}
+use Rattle.spur_heap.specs.Remembering.{must_remember, remembered_for, stored}
 use Rattle.spur_heap.specs.Following.{is_forwarder, IsFollowed, IsFollowedSlot, Follows}
 use Rattle.spur_heap.proofs.SlotCounts.{pointers_within}
 use Rattle.spur_heap.proofs.OneCell.{with_cell}
@@ -18,8 +18,8 @@ use Rattle.spur_heap.proofs.Swap.{internal-same, ordinary-same, reference-same, 
 use Rattle.spur_heap.proofs.Graphs.{read-same, starts-same, room-same}
 use Rattle.spur_heap.proofs.SlotAlike.{Another, another_body, another_like, another_slot, by_slots, swap, page_of-same, another_sound, another_node, another_graph}
 use Rattle.spur_heap.proofs.Touched.{Touch, Keeps, touched_store, touched_whole, touched_graph, touched_room}
-use Rattle.spur_heap.proofs.Tables.{SameTables, touched_tables, tables-trans}
-use Rattle.spur_heap.proofs.Written.{Slot, body_then, slot_touch, slot_fits, slot_length}
+use Rattle.spur_heap.proofs.Tables.{SameTables, NotesToo, touched_tables, touched_same, tables-trans}
+use Rattle.spur_heap.proofs.Written.{bit_kept, Slot, body_then, slot_touch, slot_fits, slot_length}
 use Rattle.spur_heap.proofs.StoredMarks.{remembered_marks, slot_marks}
 use Rattle.spur_heap.proofs.Storing.{RemembersFor, remembers_for, remembered_for_long, stored_view}
 use Rattle.spur_heap.proofs.Puts.{whole_sound}
@@ -69,6 +69,10 @@ module _ (v : View) (whole : IsWhole v) (s n w : ℕ) (k : Another (store_of v) 
   followed_tables =
       tables-trans v u new r.tables
       (touched_tables u new.words s (There (body_then u s n w)) touch (there_starts ((store_of u).cell s) slot.object) refl (ordinary-same (swap then)))
+
+  pub followed_notes : NotesToo v new (must_remember v s w) s
+  followed_notes t =
+      touched_same u new.words s (There (body_then u s n w)) touch (there_starts ((store_of u).cell s) slot.object) refl (bit_kept u s n w slot) t ∙ r.notes t
 
   store_then : store_of new ≡ changed (store_of u) s (another_body then)
   store_then = touched_store u new.words s (There (body_then u s n w)) touch

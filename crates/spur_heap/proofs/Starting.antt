@@ -34,8 +34,12 @@ module _ (v : View) (whole : IsWhole v) (s : ℕ) (starts : StartsAt v s) where
     pub object_is : nat_eq class 8 ≡ false → IsObject v s
     object_is off = there_else ((store_of v).cell s) (stays_by v (whole_sound v whole) s class starts is (λ e. false≢true (sym off ∙ eq-eqb class 8 e))) starts
 
--- the map has no other start
+-- the map has starts, and no other
 module _ (map : StartMap) (v : View) (same : (s : ℕ) → has_start map s ≡ starts_at v s) (from : ℕ) where
+  pub start_found : (o : Option ℕ) → IfSome o (λ s. (from ≤ s) × (s < covered map) × (has_start map s ≡ true)) → IfSome o (λ s. (from ≤ s) × StartsAt v s)
+  start_found None h = tt
+  start_found (Some s) h = (h.0, sym (same s) ∙ h.2)
+
   pub none_between : (o : Option ℕ) → IfSome o (λ s. (k : ℕ) → from ≤ k → k < s → has_start map k ≡ false) → IfSome o (λ s. (k : ℕ) → from ≤ k → k < s → StartsAt v k → ⊥)
   none_between None h = tt
   none_between (Some s) h = λ k a b starts. false≢true (sym (h k a b) ∙ same k ∙ starts)

@@ -1,5 +1,5 @@
 -- A pointer slot of an object is written, and the object is remembered where it has to be.
-use Rattle.std.proofs.Common.{◌≡◌, ℕ, true, false, cond, ◌+◌, ◌<◌, List, length, get_or, set, refl, sym, ap, ◌∙◌, subst, arith, inl, inr, nat_lt, ◌&&◌}
+use Rattle.std.proofs.Common.{◌≡◌, ℕ, true, false, cond, ◌+◌, ◌<◌, List, length, get_or, set, refl, sym, ap, ◌∙◌, subst, arith, inl, inr, nat_lt, ◌&&◌, ◌||◌, eqb}
 use Rattle.std.proofs.lemmas.Bool.{false≢true, cases_Bool, and_parts, lt-ltb, ltb-true}
 use Rattle.std.proofs.lemmas.List.{length-set}
 use Rattle.object_header.specs.Formats.{is_method}
@@ -8,14 +8,16 @@ use Rattle.spur_graph.specs.Cells.{Store}
 use Rattle.spur_graph.specs.Ordinary.{is_ordinary, is_good_word, body_at}
 use Rattle.spur_graph.specs.CellGraph.{node_of}
 use Rattle.spur_graph.specs.Heaps.{View, IsWhole, store_of, heap_value, heap_graph, heap_room, own_name, is_over, is_remembered}
+use Rattle.remembered_set.specs.Starts.{Table}
 use Rattle.spur_heap.specs.declared.heap.HeapParts.{HeapParts}
-use Rattle.spur_heap.specs.Parts.{view_of}
+use Rattle.spur_heap.specs.Parts.{view_of, is_noted}
 use Rattle.spur_heap.specs.Words.{is_object}
 use Rattle.spur_heap.specs.Views.{IsOrdinary, IsGood, node_in}
 use Rattle.spur_heap.specs.Remembering.{must_remember, with_remembered, after, remembered_at, remembered_for, stored}
-use Rattle.spur_heap.proofs.Tables.{SameTables, tables-same, tables-trans}
-use Rattle.spur_heap.proofs.RememberedBit.{remembered_tables, remembered_store, remembered_graph, remembered_room, remembered_value, remembered_whole, bit_is_set}
-use Rattle.spur_heap.proofs.Written.{Write, HasBitFor, whole_written, graph_written, tables_written, ordinary_kept, good_kept, value_kept, room_kept}
+use Rattle.spur_heap.proofs.Noted.{or_false}
+use Rattle.spur_heap.proofs.Tables.{SameTables, NotesToo, tables-same, tables-trans}
+use Rattle.spur_heap.proofs.RememberedBit.{remembered_tables, remembered_notes, remembered_store, remembered_graph, remembered_room, remembered_value, remembered_whole, bit_is_set}
+use Rattle.spur_heap.proofs.Written.{Write, HasBitFor, whole_written, graph_written, tables_written, noted_written, ordinary_kept, good_kept, value_kept, room_kept}
 use Rattle.spur_heap.proofs.Puts.{whole_sound, object, pointer_write, pointer_node}
 
 -- `u` is `v` but for the remembered bit of what starts at `s`, which is set where `w` names new space and `s` is in old space
@@ -23,6 +25,7 @@ pub record RemembersFor (v u : View) (s w : ℕ) : Type 0 where
   pub whole : IsWhole u
   pub store : store_of u ≡ store_of v
   pub tables : SameTables v u
+  pub notes : NotesToo v u (must_remember v s w) s
   pub graph : heap_graph u ≡ heap_graph v
   pub room : heap_room u ≡ heap_room v
   pub value : (w : ℕ) → heap_value u w ≡ heap_value v w
@@ -37,6 +40,7 @@ module _ (v : View) (whole : IsWhole v) (s : ℕ) (o : is_object v s ≡ true) (
         whole = remembered_whole v k s o low whole;
         store = remembered_store v k s o;
         tables = remembered_tables v k s o;
+        notes = λ t. remembered_notes v k s o t ∙ (λ i. is_noted v t || (sym on i && eqb t s));
         graph = remembered_graph v k s o;
         room = remembered_room v k s o;
         value = remembered_value v k s o;
@@ -48,6 +52,7 @@ module _ (v : View) (whole : IsWhole v) (s : ℕ) (o : is_object v s ≡ true) (
     whole = whole;
     store = refl;
     tables = tables-same v;
+    notes = λ t. sym (or_false (is_noted v t)) ∙ (λ i. is_noted v t || (sym off i && eqb t s));
     graph = refl;
     room = refl;
     value = λ u. refl;
@@ -109,6 +114,9 @@ module _ (v : View) (whole : IsWhole v) (s : ℕ) (there : IsOrdinary v s) (w : 
     pub stored_tables : SameTables v (stored v s i w)
     stored_tables = tables-trans v u (stored v s i w) remembers.tables (tables_written u s i w write)
 
+    pub stored_notes : NotesToo v (stored v s i w) (must_remember v s w) s
+    stored_notes t = noted_written u s i w write t ∙ remembers.notes t
+
 pub remembered_for_long : (v : View) (s w : ℕ) → length (remembered_for v s w).words ≡ length v.words
 remembered_for_long v s w = elim (cases_Bool (must_remember v s w)) [
   | inl on ↦ subst (λ b. length (cond b (remembered_at v s) v).words ≡ length v.words) (sym on) (length-set v.words s (with_remembered (get_or v.words s 0)))
@@ -123,8 +131,8 @@ stored_view v s i w = elim (cases_Bool (must_remember v s w)) [
 ]
 
 -- what is seen of the parts then
-pub stored_seen : (p : HeapParts) (v : View) → view_of p ≡ v → (s i w : ℕ) → (q : HeapParts) → q ≡ record p { region = (remembered_for (view_of p) s w).words }
+pub stored_seen : (p : HeapParts) (v : View) → view_of p ≡ v → (s i w : ℕ) → (q : HeapParts) (table : Table) → q ≡ record p { region = (remembered_for (view_of p) s w).words; remembered = table }
     → (new : List ℕ) → new ≡ set q.region (s + 1 + i) w → view_of (record q { region = new }) ≡ stored v s i w
-stored_seen p v same s i w q is new e =
+stored_seen p v same s i w q table is new e =
     let words : new ≡ (stored (view_of p) s i w).words = e ∙ ap (λ (r : HeapParts). set r.region (s + 1 + i) w) is in
     (λ x. view_of (record (is x) { region = words x })) ∙ sym (stored_view (view_of p) s i w) ∙ ap (λ (u : View). stored u s i w) same

@@ -1,25 +1,29 @@
 -- The tables beside the words, where other words tell the same of each.
-use Rattle.std.proofs.Common.{◌≡◌, ◌≢◌, ℕ, true, ◌≤◌, not, List, length, get_or, vec_capacity, refl, sym, ap, ◌∙◌, subst, inl, inr}
-use Rattle.std.proofs.lemmas.Bool.{false≢true, cases_eq}
+use Rattle.std.proofs.Common.{◌≡◌, ◌≢◌, ℕ, Bool, true, false, ◌≤◌, not, ◌&&◌, ◌||◌, eqb, List, length, get_or, vec_capacity, refl, sym, ap, ◌∙◌, subst, inl, inr}
+use Rattle.std.proofs.lemmas.Bool.{false≢true, cases_eq, cases_Bool, eq-eqb, ne_eqb, and_right}
 use Rattle.std.proofs.lemmas.List.Elements.{filter_agree}
 use Rattle.object_header.specs.Chunks.{Chunk}
 use Rattle.spur_graph.specs.Cells.{Cell, Store, is_start}
 use Rattle.spur_graph.specs.Ordinary.{is_ordinary, ordinary_starts}
 use Rattle.spur_graph.specs.Spaces.{old_row, young_row}
-use Rattle.spur_graph.specs.Heaps.{View, IsWhole, store_of, chunks_of, heap_to}
+use Rattle.spur_graph.specs.Heaps.{View, IsWhole, store_of, chunks_of, heap_to, is_remembered}
+use Rattle.heap_cells.proofs.Cutting.{start-in}
 use Rattle.heap_cells.proofs.Members.{In, in_left}
+use Rattle.remembered_set.specs.Starts.{Table}
 use Rattle.free_lists.specs.Runs.{cover}
 use Rattle.free_lists.specs.Rows.{free_runs, is_free}
 use Rattle.free_lists.specs.Lists.{Lists}
 use Rattle.free_lists.specs.declared.lists.FreeLists.{FreeLists}
 use Rattle.free_lists.proofs.Given.{keeps_lists}
 use Rattle.spur_heap.specs.declared.heap.HeapParts.{HeapParts}
-use Rattle.spur_heap.specs.Parts.{view_of, HasTables, ArePartsOfHeap}
-use Rattle.spur_heap.specs.Tables.{HasPlaces}
+use Rattle.spur_heap.specs.Parts.{view_of, is_noted, HasTables, ArePartsOfHeap}
+use Rattle.spur_heap.specs.Remembering.{CanNote, noted}
+use Rattle.spur_heap.specs.Tables.{HasPlaces, IsTableOf}
 use Rattle.spur_heap.specs.Words.{starts_at}
 use Rattle.spur_heap.proofs.OneCell.{with_cell, cell_here, cell_other}
 use Rattle.spur_heap.proofs.Orders.{order}
-use Rattle.spur_heap.proofs.Touched.{Touch, touched, touched_store, same_rows, other_words}
+use Rattle.spur_heap.proofs.Noted.{or_false, and_true, table_same, noted_table, noted_bit, can_note}
+use Rattle.spur_heap.proofs.Touched.{Touch, touched, touched_store, same_rows, other_words, headers, same_bit}
 use Rattle.spur_heap.proofs.FreeRuns.{free_told, free_runs_same, covered_by}
 
 -- the words hold these free lists, which are those of old space
@@ -43,6 +47,13 @@ tables-trans v u w a b = record {
   lists = λ free k. b.lists free (a.lists free k);
   count = b.count ∙ a.count;
 }
+
+-- the remembered starts of the one heap are those of the other, and `s` where it is on
+abbrev pub NotesToo : View → View → Bool → ℕ → Type 0
+NotesToo v u on s = (t : ℕ) → is_noted u t ≡ (is_noted v t || (on && eqb t s))
+
+abbrev pub SameNoted : View → View → Type 0
+SameNoted v u = (t : ℕ) → is_noted u t ≡ is_noted v t
 
 -- a write inside one chunk that is no free chunk before or after, and that leaves which objects are ordinary
 module _ (v : View) (new : List ℕ) (s : ℕ) (x : Cell) (k : Touch v new s x) (was : is_start ((store_of v).cell s) ≡ true) (is : is_start x ≡ true) where
@@ -80,6 +91,33 @@ module _ (v : View) (new : List ℕ) (s : ℕ) (x : Cell) (k : Touch v new s x) 
   pub touched_lists : (free : FreeLists) → HasFreeLists v free → HasFreeLists (touched v new s x k) free
   touched_lists free l = subst (λ runs. Lists new free runs) (sym same_runs) (keeps_lists v.words new free (free_runs v.words (old_row v.words v.spaces)) l k.long same_word)
 
+  -- ---- the remembered starts
+
+  own_start : (t : ℕ) → t ≡ s → starts_at v t ≡ true
+  own_start t e = ap (starts_at v) e ∙ was
+
+  other_bit : (t : ℕ) → t ≢ s → starts_at v t ≡ true → is_remembered new t ≡ is_remembered v.words t
+  other_bit t n there =
+      let c = start-in heap_to v.words (chunks_of v) t there in
+      same_bit v.words new t (subst (λ u. get_or new u 0 ≡ get_or v.words u 0) c.2 (headers v new s x k c.0 c.1 (λ e. n (sym c.2 ∙ e))))
+
+  other_noted : (t : ℕ) → t ≢ s → is_noted (touched v new s x k) t ≡ is_noted v t
+  other_noted t n = ap (λ b. b && is_remembered new t) (touched_starts t) ∙ elim (cases_Bool (starts_at v t)) [
+    | inl there ↦ ap (λ b. starts_at v t && b) (other_bit t n there)
+    | inr none ↦ rw none refl
+  ]
+
+  pub touched_noted : (on : Bool) → is_remembered new s ≡ (is_remembered v.words s || on) → NotesToo v (touched v new s x k) on s
+  touched_noted on bit t = elim (cases_eq t s) [
+    | inl e ↦
+        ap (λ b. b && is_remembered new t) (touched_starts t ∙ own_start t e) ∙ ap (is_remembered new) e ∙ bit ∙ ap (λ u. is_remembered v.words u || on) (sym e)
+        ∙ (λ i. (sym (own_start t e) i && is_remembered v.words t) || sym (ap (λ b. on && b) (eq-eqb t s e) ∙ and_true on) i)
+    | inr n ↦ other_noted t n ∙ sym (ap (λ b. is_noted v t || b) (ap (λ b. on && b) (ne_eqb t s n) ∙ and_right on false refl) ∙ or_false (is_noted v t))
+  ]
+
+  pub touched_same : is_remembered new s ≡ is_remembered v.words s → SameNoted v (touched v new s x k)
+  touched_same bit t = touched_noted false (bit ∙ sym (or_false (is_remembered v.words s))) t ∙ or_false (is_noted v t)
+
   pub touched_tables : ((t : ℕ) → is_ordinary (with_cell (store_of v) s x) t ≡ is_ordinary (store_of v) t) → SameTables v (touched v new s x k)
   unfolding ordinary_starts
   touched_tables ordinary = record {
@@ -90,6 +128,17 @@ module _ (v : View) (new : List ℕ) (s : ℕ) (x : Cell) (k : Touch v new s x) 
         ap (λ (h : Store). length (ordinary_starts h)) (touched_store v new s x k)
         ∙ ap (λ (ts : List ℕ). length ts) (filter_agree (is_ordinary (with_cell (store_of v) s x)) (is_ordinary (store_of v)) ordinary (store_of v).starts);
   }
+
+-- where the starts of the one heap are starts of the other with the same bits, and no other start is remembered
+pub noted_from : (v u : View) → ((t : ℕ) → starts_at v t ≡ true → (starts_at u t ≡ true) × (is_remembered u.words t ≡ is_remembered v.words t))
+    → ((t : ℕ) → starts_at v t ≡ false → starts_at u t ≡ true → is_remembered u.words t ≡ false) → SameNoted v u
+noted_from v u kept others t = elim (cases_Bool (starts_at v t)) [
+  | inl on ↦ let k = kept t on in λ i. (k.0 ∙ sym on) i && k.1 i
+  | inr off ↦ elim (cases_Bool (starts_at u t)) [
+    | inl on ↦ (λ i. on i && others t off on i) ∙ sym (λ i. off i && is_remembered v.words t)
+    | inr none ↦ (λ i. none i && is_remembered u.words t) ∙ sym (λ i. off i && is_remembered v.words t)
+  ]
+]
 
 -- the tables that no word tells, where other parts have them
 pub tables_kept : (p q : HeapParts) → HasTables p → length q.region ≡ length p.region
@@ -103,19 +152,44 @@ tables_kept p q k long is = subst (λ (r : HeapParts). HasTables r) (sym is) (re
   some_saved = k.some_saved;
 })
 
--- the parts of a heap with other words, which are whole and whose tables are the same
-pub parts_with : (p : HeapParts) → ArePartsOfHeap p → (v u : View) → view_of p ≡ v → (new : List ℕ) → view_of (record p { region = new }) ≡ u → IsWhole u → SameTables v u → ArePartsOfHeap (record p { region = new })
-parts_with p k v u same new seen whole tables = record {
-  whole = subst (λ (x : View). IsWhole x) (sym seen) whole;
-  map = record {
-    starts = λ t. k.map.starts t ∙ ap (λ (x : View). starts_at x t) same ∙ sym (tables.starts t) ∙ ap (λ (x : View). starts_at x t) (sym seen);
-    covers = k.map.covers ∙ ap (λ (x : View). length x.words) same ∙ sym tables.long ∙ ap (λ (x : View). length x.words) (sym seen);
-  };
-  free_chunks = record {
-    lists = subst (λ (x : View). HasFreeLists x p.free) (sym seen) (tables.lists p.free (subst (λ (x : View). HasFreeLists x p.free) same k.free_chunks.lists));
-  };
-  objects = record {
-    count = k.objects.count ∙ ap (λ (x : View). length (ordinary_starts (store_of x))) same ∙ sym tables.count ∙ ap (λ (x : View). length (ordinary_starts (store_of x))) (sym seen);
-  };
-  tables = tables_kept p (record p { region = new }) k.tables (ap (λ (x : View). length x.words) seen ∙ tables.long ∙ ap (λ (x : View). length x.words) (sym same)) refl;
-}
+-- a start has a place in the table of remembered ones
+pub can_note_at : (p : HeapParts) → ArePartsOfHeap p → (v : View) → view_of p ≡ v → (s : ℕ) → starts_at v s ≡ true → CanNote p s
+can_note_at p k v same s there =
+    can_note p (record { spaces = k.whole.spaces; rows = k.whole.rows; sound = k.whole.sound; few = k.whole.few }) k.remembered s (ap (λ (x : View). starts_at x s) same ∙ there)
+
+-- the parts of a heap with other words and another table of remembered starts, which are whole and whose other tables are the same
+pub parts_with : (p : HeapParts) → ArePartsOfHeap p → (v u : View) → view_of p ≡ v → (new : List ℕ) (table : Table) → view_of (record p { region = new }) ≡ u → IsWhole u → SameTables v u → IsTableOf (is_noted u) (length p.region) table
+    → ArePartsOfHeap (record p { region = new; remembered = table })
+parts_with p k v u same new table seen whole tables noted =
+    let long : length new ≡ length p.region = ap (λ (x : View). length x.words) seen ∙ tables.long ∙ ap (λ (x : View). length x.words) (sym same) in
+    record {
+      whole = subst (λ (x : View). IsWhole x) (sym seen) whole;
+      map = record {
+        starts = λ t. k.map.starts t ∙ ap (λ (x : View). starts_at x t) same ∙ sym (tables.starts t) ∙ ap (λ (x : View). starts_at x t) (sym seen);
+        covers = k.map.covers ∙ sym long;
+      };
+      free_chunks = record {
+        lists = subst (λ (x : View). HasFreeLists x p.free) (sym seen) (tables.lists p.free (subst (λ (x : View). HasFreeLists x p.free) same k.free_chunks.lists));
+      };
+      objects = record {
+        count = k.objects.count ∙ ap (λ (x : View). length (ordinary_starts (store_of x))) same ∙ sym tables.count ∙ ap (λ (x : View). length (ordinary_starts (store_of x))) (sym seen);
+      };
+      remembered = record { table = table_same (λ t. ap (λ (x : View). is_noted x t) seen) long noted };
+      tables = tables_kept p (record p { region = new; remembered = table }) k.tables long refl;
+    }
+
+-- the same where the remembered starts are the same, and so is their table
+pub parts_same : (p : HeapParts) → ArePartsOfHeap p → (v u : View) → view_of p ≡ v → (new : List ℕ) → view_of (record p { region = new }) ≡ u → IsWhole u → SameTables v u → SameNoted v u → ArePartsOfHeap (record p { region = new })
+parts_same p k v u same new seen whole tables noted =
+    parts_with p k v u same new p.remembered seen whole tables (table_same (λ t. noted t ∙ ap (λ (x : View). is_noted x t) (sym same)) refl k.remembered.table)
+
+-- the table where one start more is remembered, or may be
+pub noting_table : (p : HeapParts) → ArePartsOfHeap p → (v u : View) → view_of p ≡ v → (on : View → Bool) (s : ℕ) → starts_at v s ≡ true → NotesToo v u (on v) s → IsTableOf (is_noted u) (length p.region) (noted (view_of p) (on (view_of p)) s p.remembered)
+noting_table p k v u same on s there notes =
+    table_same (λ t. notes t ∙ ap (λ (x : View). is_noted x t || (on x && eqb t s)) (sym same)) refl
+    (noted_table (view_of p) (is_noted (view_of p)) (length p.region) p.remembered k.remembered.table s (on (view_of p)) (sym (noted_bit (view_of p) s (ap (λ (x : View). starts_at x s) same ∙ there))))
+
+pub parts_noting : (p : HeapParts) → ArePartsOfHeap p → (v u : View) → view_of p ≡ v → (new : List ℕ) → view_of (record p { region = new }) ≡ u → IsWhole u → SameTables v u
+    → (on : View → Bool) (s : ℕ) → starts_at v s ≡ true → NotesToo v u (on v) s → ArePartsOfHeap (record p { region = new; remembered = noted (view_of p) (on (view_of p)) s p.remembered })
+parts_noting p k v u same new seen whole tables on s there notes =
+    parts_with p k v u same new (noted (view_of p) (on (view_of p)) s p.remembered) seen whole tables (noting_table p k v u same on s there notes)

@@ -29,9 +29,9 @@ use Rattle.spur_heap.proofs.Lone.{lone_page, unheld, unspecial, unmourned}
 use Rattle.spur_heap.proofs.Orders.{order}
 use Rattle.spur_heap.proofs.Paged.{paged, alike, paged_sound, paged-final, internal-other, ordinary-other, good-other, reference-other}
 use Rattle.spur_heap.proofs.Puts.{whole_sound}
-use Rattle.spur_heap.proofs.Tables.{HasFreeLists, touched_starts, touched_lists}
+use Rattle.spur_heap.proofs.Tables.{HasFreeLists, SameNoted, touched_same, touched_starts, touched_lists}
 use Rattle.spur_heap.proofs.Touched.{Touch, Holds, touched_store, held_whole}
-use Rattle.spur_heap.proofs.Written.{Slot, then, body_then, slot_touch, slot_fits}
+use Rattle.spur_heap.proofs.Written.{Slot, bit_kept, then, body_then, slot_touch, slot_fits}
 
 -- where the room has a spot of old space, its chunk stands
 pub record StandsOld (v : View) (s : ℕ) (spot : Spot) : Type 0 where
@@ -150,6 +150,9 @@ module _ {v : View} {place start : ℕ} (whole : IsWhole v) (can : CanTurn v pla
 
   was_start : is_start (h.cell roots) ≡ true
   was_start = there_starts (h.cell roots) slot.object
+
+  pub turned_noted : SameNoted v turned
+  turned_noted = touched_same v turned.words roots (There new_roots) turned_touch was_start refl (bit_kept v roots place (word_of start) slot)
 
   pub turned_starts : (t : ℕ) → starts_at turned t ≡ starts_at v t
   turned_starts = touched_starts v turned.words roots (There new_roots) turned_touch was_start refl

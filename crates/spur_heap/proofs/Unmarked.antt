@@ -18,8 +18,8 @@ use Rattle.spur_heap.specs.MarkBits.{without_mark, Unmarks}
 use Rattle.spur_heap.proofs.Marking.{SetsMark, sets_mark, rephased_parts}
 use Rattle.spur_heap.proofs.Rebuilt.{run_in, free_bits, short_count}
 use Rattle.spur_heap.proofs.SameCell.{TellSame}
-use Rattle.spur_heap.proofs.SameHeads.{SameHeads, heads_store, heads_graph, heads_room, heads_whole, heads_tables, before}
-use Rattle.spur_heap.proofs.Tables.{parts_with}
+use Rattle.spur_heap.proofs.SameHeads.{SameHeads, heads_store, heads_graph, heads_room, heads_whole, heads_tables, heads_noted, before}
+use Rattle.spur_heap.proofs.Tables.{parts_same}
 
 -- a word without the bit stays
 unmarked_stays : (word : ℕ) → (fields_of word).marked ≡ 0 → without_mark word ≡ word
@@ -74,5 +74,7 @@ module _ (p : HeapParts) (k : ArePartsOfHeap p) (new : List ℕ) (u : Unmarks p.
   pub unmarked_parts : ArePartsOfHeap (record p { region = new; phase = codes.Whole })
   unmarked_parts =
       let whole = heads_whole heads (λ c m. ap (λ w. (fields_of w).remembered) (header c m) ∙ (sets (get_or v.words c.start 0)).remembered) (bits v.phase) in
-      let marked : ArePartsOfHeap (record p { region = new }) = parts_with p k v (record v { words = new }) refl new refl whole (heads_tables heads free_stays) in
+      let remembered : (c : Chunk) → In (chunks_of v) c → (fields_of (get_or new c.start 0)).remembered ≡ (fields_of (get_or v.words c.start 0)).remembered =
+      λ c m. ap (λ w. (fields_of w).remembered) (header c m) ∙ (sets (get_or v.words c.start 0)).remembered in
+      let marked : ArePartsOfHeap (record p { region = new }) = parts_same p k v (record v { words = new }) refl new refl whole (heads_tables heads free_stays) (heads_noted heads remembered) in
       rephased_parts (record p { region = new }) marked codes.Whole p.marks refl (λ c m. bits Whole c (before heads c m))

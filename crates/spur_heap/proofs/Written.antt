@@ -21,8 +21,8 @@ use Rattle.spur_heap.specs.Words.{AreSound, body_in, is_good}
 use Rattle.spur_heap.specs.Remembering.{after}
 use Rattle.spur_heap.proofs.Orders.{order}
 use Rattle.spur_heap.proofs.Touched.{Touch, Fits, same_bit}
-use Rattle.spur_heap.proofs.Tables.{SameTables}
-use Rattle.spur_heap.proofs.Replaced.{replaced_whole, replaced_tables, replaced_ordinary, replaced_good, replaced_value, replaced_graph, replaced_room}
+use Rattle.spur_heap.proofs.Tables.{SameTables, SameNoted}
+use Rattle.spur_heap.proofs.Replaced.{replaced_whole, replaced_tables, replaced_same, replaced_ordinary, replaced_good, replaced_value, replaced_graph, replaced_room}
 use Rattle.spur_heap.proofs.InPlace.{Alike}
 use Rattle.spur_heap.proofs.Swap.{fires_alike}
 use Rattle.spur_heap.proofs.Changing.{Change, change_alike, swap_of}
@@ -84,7 +84,7 @@ module _ (v : View) (s n w : ℕ) (k : Slot v s n) where
         ]);
       }
 
-  bit_kept : is_remembered (then v s n w).words s ≡ is_remembered v.words s
+  pub bit_kept : is_remembered (then v s n w).words s ≡ is_remembered v.words s
   bit_kept = same_bit v.words (then v s n w).words s own_header
 
   pub slot_fits : IsLike (body_in v s) (set (body_in v s).words n w) → BitFor v s n w → IsWhole v → Fits v (then v s n w).words s (There (body_then v s n w))
@@ -148,6 +148,9 @@ module _ (v : View) (s n w : ℕ) (k : Write v s n w) where
 
   pub tables_written : SameTables v (then v s n w)
   tables_written = replaced_tables v s (then v s n w).words (body_then v s n w) touch change
+
+  pub noted_written : SameNoted v (then v s n w)
+  noted_written = replaced_same v s (then v s n w).words (body_then v s n w) touch change (bit_kept v s n w slot)
 
   pub ordinary_kept : (t : ℕ) → is_ordinary (store_of (then v s n w)) t ≡ is_ordinary (store_of v) t
   ordinary_kept = replaced_ordinary v s (then v s n w).words (body_then v s n w) touch change

@@ -1,5 +1,5 @@
 -- The parts of a heap, as they stand for one.
-use Rattle.std.specs.Prelude.{ℕ, ◌≡◌, ◌≤◌, List, [], length, drop, vec_capacity, refl, nat_eq, if◌then◌else◌}
+use Rattle.std.specs.Prelude.{ℕ, ◌≡◌, ◌≤◌, ◌&&◌, Bool, List, [], length, drop, vec_capacity, refl, nat_eq, if◌then◌else◌}
 use Rattle.std.specs.Coded.{Coded, code_by, coded×, coded_ℕ, coded_list}
 use Rattle.std.specs.FinMap.{FinMap, code}
 use Rattle.heap_walk.specs.Starts.{has_start, covered}
@@ -10,8 +10,8 @@ use Rattle.spur_graph.specs.Spaces.{Spaces, old_row}
 use Rattle.handle_table.specs.Handles.{held}
 use Rattle.free_lists.specs.Rows.{free_runs}
 use Rattle.free_lists.specs.Lists.{Lists}
-use Rattle.spur_graph.specs.Heaps.{View, Phase, Whole, Marked, store_of, IsWhole}
-use Rattle.spur_heap.specs.Tables.{parted, groups_of, HasPlaces}
+use Rattle.spur_graph.specs.Heaps.{View, Phase, Whole, Marked, store_of, is_remembered, IsWhole}
+use Rattle.spur_heap.specs.Tables.{parted, groups_of, HasPlaces, IsTableOf}
 use Rattle.spur_heap.specs.declared.heap.HeapParts.{HeapParts}
 use Rattle.spur_heap.specs.declared.heap.Phase as code
 use Rattle.spur_heap.specs.declared.heap.Phase.TheVariants as codes
@@ -61,6 +61,14 @@ pub record HasLists (p : HeapParts) : Type 0 where
 pub record HasCount (p : HeapParts) : Type 0 where
   pub count : p.objects ≡ length (ordinary_starts (store_of (view_of p)))
 
+-- an object or a forwarder starts there, and its header has the remembered bit
+abbrev pub is_noted : View → ℕ → Bool
+is_noted v s = is_start ((store_of v).cell s) && is_remembered v.words s
+
+-- the table of remembered starts has those whose header has the remembered bit, and no other, each once
+pub record HasRemembered (p : HeapParts) : Type 0 where
+  pub table : IsTableOf (is_noted (view_of p)) (length p.region) p.remembered
+
 -- the table of mourners begins with a group, and the tables have their places
 pub record HasTables (p : HeapParts) : Type 0 where
   pub taken : p.mourned ≤ length p.mourners.items
@@ -76,6 +84,7 @@ pub record ArePartsOfHeap (p : HeapParts) : Type 0 where
   pub map : HasMap p
   pub free_chunks : HasLists p
   pub objects : HasCount p
+  pub remembered : HasRemembered p
   pub tables : HasTables p
 
 -- phases as numbers

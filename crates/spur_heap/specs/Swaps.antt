@@ -1,11 +1,12 @@
 -- Words of two runs change places, and so the contents of two objects.
-use Rattle.std.specs.Prelude.{ℕ, ◌≡◌, suc, zero, ◌+◌, ◌-◌, List, slice_index, slice_set, Bool, ◌||◌, ◌&&◌, nat_lt}
+use Rattle.std.specs.Prelude.{ℕ, ◌≡◌, suc, zero, ◌+◌, ◌-◌, List, slice_index, slice_set, Bool, ◌||◌}
 use Rattle.object_header.specs.Field.{with_field}
 use Rattle.object_header.specs.Fields.{fields_of}
 use Rattle.object_header.specs.Chunks.{leads}
 use Rattle.heap_walk.specs.Shapes.{lead_at, words_at}
-use Rattle.spur_graph.specs.Heaps.{View, store_of, is_remembered, names_over}
+use Rattle.spur_graph.specs.Heaps.{View, is_remembered}
 use Rattle.spur_heap.specs.Flags.{flag_bit}
+use Rattle.spur_heap.specs.Remembering.{must_with}
 
 -- the first words of the run from `a` on and of that from `b` on have changed places
 unfoldable pub swap_run : List ℕ → ℕ → ℕ → ℕ → List ℕ
@@ -19,7 +20,7 @@ pub record AreAlike (words : List ℕ) (a b : ℕ) : Type 0 where
 
 -- the place `s` is remembered once it has the contents of the object at `t`: it was, or it is in old space and they name new space
 abbrev pub remembers : View → ℕ → ℕ → Bool
-remembers v s t = is_remembered v.words s || (nat_lt s v.spaces.old_end && names_over v.spaces.old_end ((store_of v).cell t))
+remembers v s t = is_remembered v.words s || must_with v s t
 
 -- the header that it has then: that of the object, with the hash of the place and its remembered bit
 abbrev pub header_for : View → ℕ → ℕ → ℕ

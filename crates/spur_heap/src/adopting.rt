@@ -6,7 +6,7 @@ ghost use Rattle.spur_graph.specs.Cells.{any_below};
 ghost use Rattle.spur_graph.specs.Ordinary.{is_internal, page_places, roots_slots};
 ghost use Rattle.spur_graph.specs.Heaps.{IsWhole, store_of};
 ghost use Rattle.spur_heap.specs.Words.{AreSound};
-ghost use Rattle.spur_heap.specs.Parts.{view_of, HasTables, ArePartsOfHeap};
+ghost use Rattle.spur_heap.specs.Parts.{view_of, HasTables, HasRemembered, ArePartsOfHeap};
 ghost use Rattle.spur_heap.specs.Counting.{names_page, root_names, one_new, count_new, has_entered};
 ghost use Rattle.spur_heap.specs.Views.{Adopts};
 
@@ -110,6 +110,7 @@ pub fn make_tables(parts: &mut HeapParts)
     requires covers { covered parts.old.starts ≡ length parts.old.region }
     requires empty { (s : ℕ) → has_start parts.old.starts s ≡ false }
     requires tables { HasTables parts.old }
+    requires remembered { HasRemembered parts.old }
     ensures heap { ArePartsOfHeap parts.new }
     ensures adopts { Adopts (view_of parts.old) (view_of parts.new) }
 {

@@ -8,6 +8,7 @@ ghost use Rattle.spur_heap.specs.Tables.{HasEmptyTables, IsUnbound};
 
 use handle_table::HandleTable;
 use heap_walk::{Saved, StartMap};
+use remembered_set::Remembered;
 use spur_graph::Limits;
 use spur_words::{NoMemory, Region};
 use std::alloc::Global;
@@ -21,7 +22,9 @@ pub struct Bare {
     pub old_end: usize,
     /// The starts of objects and forwarders: none.
     pub starts: StartMap,
-    /// The mourners: none, with a place for each object that the region can hold.
+    /// The remembered starts: none, with a place for each object that the region can hold.
+    pub remembered: Remembered,
+    /// The mourners: none, with as many places.
     pub mourners: Vec<u32>,
     /// The mark stack: empty, with as many places.
     pub marks: Vec<u32>,
@@ -51,6 +54,7 @@ impl Bare {
         let region = Region::new(alloc, words)?;
         let starts = StartMap::new(alloc, words)?;
         let objects = words / 2;
+        let remembered = Remembered::new(alloc, objects)?;
         let Ok(mourners) = Vec::with_capacity(alloc, objects) else {
             return Err(NoMemory);
         };
@@ -67,6 +71,7 @@ impl Bare {
             region,
             old_end: old_words,
             starts,
+            remembered,
             mourners,
             marks,
             saved,

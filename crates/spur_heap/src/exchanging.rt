@@ -8,6 +8,7 @@ ghost use Rattle.spur_heap.specs.Outside.{IsOutside};
 ghost use Rattle.spur_heap.specs.Exchanging.{CanExchange, CanTake};
 
 use crate::heap::Heap;
+use crate::remembering::note_with;
 use crate::swapping::exchange_contents;
 use crate::taking::{copy_run, header_taking};
 use heap_walk::slots_of;
@@ -27,11 +28,13 @@ impl Heap {
         ensures others { (j : ℕ) → IsOutside self.old a j → IsOutside self.old b j → slice_index self.new.words j ≡ slice_index self.old.words j }
         ensures rest { self.new ≡ record self.old { words = self.new.words } }
     {
+        note_with(&mut self.parts, a, b);
+        note_with(&mut self.parts, b, a);
         exchange_contents(&mut self.parts, a, b);
     }
 
-    /// Gives an object the contents of another that has as many slots: class index, format, flags and slots, and this hash. It is remembered where it stands in old
-    /// space and names new space then. Words of the object are written, and no other.
+    /// Gives an object the contents of another that has as many slots: class index, format, flags and slots, and this hash. It stays remembered where it was, and it is
+    /// remembered where it stands in old space and names new space then. Words of the object are written, and no other.
     pub fn copy_contents(&mut self, from: usize, to: usize, hash: u32)
         requires source { IsOrdinary self.old from }
         requires target { IsOrdinary self.old to }
@@ -47,6 +50,7 @@ impl Heap {
         ensures rest { self.new ≡ record self.old { words = self.new.words } }
     {
         let parts = &mut self.parts;
+        note_with(parts, to, from);
         let header = header_taking(parts, from, to, hash as u64);
         // the length tells that no sum of places wraps
         let _end = parts.region.len();

@@ -7,6 +7,8 @@ ghost use Rattle.spur_graph.specs.Heaps.{heap_value, heap_graph, heap_room};
 ghost use Rattle.spur_heap.specs.Parts.{view_of};
 ghost use Rattle.spur_heap.specs.Views.{IsOrdinary, IsGood};
 ghost use Rattle.spur_heap.specs.Forwarders.{KeepsClass, KeepsMourner, led_to};
+ghost use Rattle.spur_heap.specs.Remembering.{CanNote, must_remember, noted};
+ghost use Rattle.heap_cells.specs.Settled.{word_of};
 
 use crate::heap::{Heap, HeapParts};
 use crate::remembering::remember_for;
@@ -15,9 +17,10 @@ use spur_graph::FORWARDER_FORMAT;
 
 /// Makes what starts at `from` a forwarder to `to`, remembered where it stands in old space and `to` behind it.
 pub fn lead_to(parts: &mut HeapParts, from: usize, to: usize)
+    requires can { CanNote parts.old from }
     requires inside { from + 1 < length parts.old.region }
     requires small { to < 2 ^ 27 }
-    ensures { parts.new ≡ record parts.old { region = (led_to (view_of parts.old) from to).words } }
+    ensures { parts.new ≡ record parts.old { region = (led_to (view_of parts.old) from to).words; remembered = noted (view_of parts.old) (must_remember (view_of parts.old) from (word_of to)) from parts.old.remembered } }
 {
     let word = 8 * to as u64;
     // the length tells that no sum of places wraps

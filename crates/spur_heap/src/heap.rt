@@ -19,6 +19,7 @@ use crate::places::first_word;
 use free_lists::FreeLists;
 use handle_table::HandleTable;
 use heap_walk::{Saved, StartMap};
+use remembered_set::Remembered;
 use spur_graph::{HandleName, Limits, Refusal, words_fit};
 use spur_words::Region;
 use std::marker::Model;
@@ -48,6 +49,8 @@ pub struct HeapParts {
     pub free: FreeLists,
     /// How many ordinary objects there are, in all spaces.
     pub objects: usize,
+    /// The starts whose headers have the remembered bit. There is a place for each object that the region can hold.
+    pub remembered: Remembered,
     /// The starts of the mourners, group after group; 2^31 is added where one begins a group. There is a place for each object that the region can hold.
     pub mourners: Vec<u32>,
     /// How many of the first entries of `mourners` were taken away.
@@ -116,6 +119,7 @@ impl Heap {
             region,
             old_end,
             starts,
+            remembered,
             mourners,
             marks,
             saved,
@@ -135,6 +139,7 @@ impl Heap {
             starts,
             free: FreeLists::new(),
             objects: 0,
+            remembered,
             mourners,
             mourned: 0,
             marks,

@@ -11,11 +11,11 @@
 //!   new space has it;
 //! - `bits`: no header has a grey bit or a bit of no field, and where the phase is `Whole` none has a mark bit.
 //!
-//! Beside it, each table agrees with the words: the map has the starts of objects and forwarders, the free lists have the free chunks of old space, and
-//! the number of ordinary objects is kept. The mark stack and the table of mourners have a place for each object that the words can hold, so that neither
-//! a marking nor an ephemeron that fires asks for memory.
-//! the number of ordinary objects is kept. The mark stack and the table of mourners have a place for each object that the words can hold, so that none of
-//! them ever asks for memory.
+//! Beside it, each table agrees with the words: the map has the starts of objects and forwarders, the free lists have the free chunks of old space, the
+//! table of remembered starts has those whose headers have the remembered bit, each once, and the number of ordinary objects is kept. The mark stack and
+//! the tables of remembered starts and of mourners have a place for each object that the words can hold, so that none of them ever asks for memory.
+//!
+//! The header tells whether a start is remembered. So whoever has to remember one reads its bit, and no write searches the table.
 //!
 //! What reads words here asks for `spaces`, `rows`, `sound` and `few` alone, and so serves between two steps of a write as well.
 //!
@@ -58,4 +58,5 @@ pub use bare::Bare;
 pub use chains::follow_start;
 pub use heap::{Heap, HeapParts, Phase};
 pub use places::first_start;
+pub use remembering::remember_anew;
 pub use slots::pointer_count_of;

@@ -1,6 +1,6 @@
 // The mark bits of the headers, and the mark stack.
-ghost use Rattle.std.specs.Prelude.{◌≡◌, ◌≢◌, ◌≤◌, ◌<◌, ◌/◌, ◌==◌, ◌++◌, ◌∷◌, [], ℕ, length, nat_eq, slice_index, true, false, IfSome, IfNone};
-ghost use Rattle.std.specs.List.{Contains};
+ghost use Rattle.std.specs.Prelude.{◌≡◌, ◌≢◌, ◌≤◌, ◌<◌, ◌/◌, ◌++◌, ◌∷◌, [], ℕ, length, nat_eq, slice_index, true, false, IfSome, IfNone};
+ghost use Rattle.std.specs.List.{Contains, swap};
 ghost use Rattle.object_header.specs.Chunks.{Chunk};
 ghost use Rattle.spur_graph.specs.Cells.{first};
 ghost use Rattle.spur_graph.specs.Ordinary.{is_internal, page_places};
@@ -78,21 +78,49 @@ impl Heap {
         self.parts.marks.push_reserved(start as u32);
     }
 
-    /// Takes the start that was put on the mark stack last, if there is one.
-    pub fn pop_mark(&mut self) -> Option<usize>
-        ensures some { IfSome result (λ s. (self.old.stack ≡ self.new.stack ++ s ∷ []) × (self.new ≡ record self.old { stack = self.new.stack })) }
-        ensures none { IfNone result ((self.old.stack ≡ []) × (self.new ≡ self.old)) }
+    /// Takes the start that was put on the mark stack last, if it stands behind the first `kept`.
+    pub fn pop_mark(&mut self, kept: usize) -> Option<usize>
+        ensures some { IfSome result (λ s. (kept ≤ length self.new.stack) × (self.old.stack ≡ self.new.stack ++ s ∷ []) × (self.new ≡ record self.old { stack = self.new.stack })) }
+        ensures none { IfNone result ((length self.old.stack ≤ kept) × (self.new ≡ self.old)) }
     {
+        if self.parts.marks.len() <= kept {
+            return None;
+        }
         let start = self.parts.marks.pop()?;
         Some(start as usize)
     }
 
-    /// Whether nothing stands on the mark stack.
-    pub fn stack_is_empty(&self) -> bool
-        ensures { result ≡ (length self.now.stack == 0) }
+    /// How many starts stand on the mark stack.
+    pub fn stack_len(&self) -> usize
+        ensures { result ≡ length self.now.stack }
     {
         let parts = &self.parts;
-        parts.marks.is_empty()
+        parts.marks.len()
+    }
+
+    /// Start `i` of the mark stack, where the latest is the last.
+    pub fn stack_item(&self, i: usize) -> usize
+        requires within { i < length self.now.stack }
+        ensures { result ≡ slice_index self.now.stack i }
+    {
+        let starts = self.parts.marks.as_slice();
+        starts[i] as usize
+    }
+
+    /// Exchanges two starts of the mark stack.
+    pub fn swap_marks(&mut self, i: usize, j: usize)
+        requires first { i < length self.old.stack }
+        requires second { j < length self.old.stack }
+        ensures { self.new ≡ record self.old { stack = swap self.old.stack i j } }
+    {
+        self.parts.marks.swap(i, j);
+    }
+
+    /// Empties the mark stack.
+    pub fn clear_stack(&mut self)
+        ensures { self.new ≡ record self.old { stack = [] } }
+    {
+        self.parts.marks.clear();
     }
 
     /// Marks one of the first five chunks of old space.

@@ -5,11 +5,11 @@ ghost use Rattle.spur_words.specs.Runs.{IsApart};
 ghost use Rattle.spur_heap.specs.Parts.{view_of};
 ghost use Rattle.spur_heap.specs.Words.{AreSound, is_object};
 ghost use Rattle.heap_walk.specs.Shapes.{lead_at, words_at};
-ghost use Rattle.spur_heap.specs.Swaps.{swap_run, AreAlike, remembers, header_for, exchanged_words};
+ghost use Rattle.spur_heap.specs.Swaps.{swap_run, AreAlike, header_for, exchanged_words};
 
 use crate::flags::bit;
 use crate::heap::HeapParts;
-use crate::taking::is_remembered_with;
+use crate::taking::remembers;
 use object_header::Header;
 use spur_words::Region;
 
@@ -43,16 +43,6 @@ fn words_of(region: &Region, start: usize) -> usize
     ensures { result ≡ words_at region.now start }
 {
     heap_walk::words_of(region.as_slice(), start)
-}
-
-/// Whether a place is remembered once it has the contents of another object: it was, or it has to be.
-fn remembers(parts: &HeapParts, place: usize, other: usize) -> bool
-    requires sound { AreSound (view_of parts.now) }
-    requires inside { place < length parts.now.region }
-    requires there { is_object (view_of parts.now) other ≡ true }
-    ensures { result ≡ remembers (view_of parts.now) place other }
-{
-    Header(parts.region.get(place)).remembered() == 1 || is_remembered_with(parts, other, place)
 }
 
 /// The header that a place has once it has the contents of another object: it keeps its hash, and its remembered bit where that is set.

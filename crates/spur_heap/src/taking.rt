@@ -1,9 +1,10 @@
 // The header and the slots of an object that takes the contents of another.
-ghost use Rattle.std.specs.Prelude.{◌≡◌, ◌<◌, ◌^◌, ◌&&◌, ◌+◌, ◌≤◌, ℕ, length, nat_lt, slice_index, true};
-ghost use Rattle.spur_graph.specs.Heaps.{store_of, names_over};
+ghost use Rattle.std.specs.Prelude.{◌≡◌, ◌<◌, ◌^◌, ◌+◌, ◌≤◌, ℕ, length, slice_index, true};
 ghost use Rattle.spur_heap.specs.Contents.{TakesHeader};
 ghost use Rattle.spur_heap.specs.Fresh.{SameOutside};
 ghost use Rattle.spur_heap.specs.Parts.{view_of};
+ghost use Rattle.spur_heap.specs.Remembering.{must_with};
+ghost use Rattle.spur_heap.specs.Swaps.{remembers};
 ghost use Rattle.spur_heap.specs.Words.{AreSound, is_object};
 
 use crate::flags::bit;
@@ -16,13 +17,23 @@ use spur_words::Region;
 pub fn is_remembered_with(parts: &HeapParts, from: usize, to: usize) -> bool
     requires sound { AreSound (view_of parts.now) }
     requires there { is_object (view_of parts.now) from ≡ true }
-    ensures { result ≡ (nat_lt to parts.now.old_end && names_over parts.now.old_end ((store_of (view_of parts.now)).cell from)) }
+    ensures { result ≡ must_with (view_of parts.now) to from }
 {
     if to < parts.old_end {
         names_new(parts, from)
     } else {
         false
     }
+}
+
+/// Whether a place is remembered once it has the contents of another object: it was, or it has to be.
+pub fn remembers(parts: &HeapParts, place: usize, other: usize) -> bool
+    requires sound { AreSound (view_of parts.now) }
+    requires inside { place < length parts.now.region }
+    requires there { is_object (view_of parts.now) other ≡ true }
+    ensures { result ≡ remembers (view_of parts.now) place other }
+{
+    Header(parts.region.get(place)).remembered() == 1 || is_remembered_with(parts, other, place)
 }
 
 /// The header of the object that starts at `to` once it has the contents of the one that starts at `from`, and this hash.
@@ -39,7 +50,7 @@ pub fn header_taking(parts: &HeapParts, from: usize, to: usize, hash: u64) -> He
         .set_hash(hash)
         .set_marked(0)
         .set_grey(0)
-        .set_remembered(bit(is_remembered_with(parts, from, to)))
+        .set_remembered(bit(remembers(parts, to, from)))
 }
 
 /// Copies the run of `len` words from the index `from` on to the index `to` on. No word outside the second run changes.

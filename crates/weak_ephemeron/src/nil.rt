@@ -31,6 +31,7 @@ fn nil_slot(heap: &mut Heap, start: usize, i: usize) -> u64
     requires marked { heap.old.phase ≡ Marked }
     ensures nils { NilsSlot start i heap.old heap.new }
     ensures count { result ≡ (if names_dead (marks heap.old) (slot_value heap.old start i) then 1 else 0) }
+    ensures idle { result ≡ 0 → heap.new ≡ heap.old }
 {
     if !names_unmarked(heap, start, i) {
         return 0;
@@ -48,6 +49,7 @@ pub fn nil_weak(heap: &mut Heap, start: usize) -> u64
     requires marked { heap.old.phase ≡ Marked }
     ensures nils { NilsOne start heap.old heap.new }
     ensures count { result ≡ count_by (names_dead (marks heap.old)) (live.weak_values (heap_graph heap.old) (node_in heap.old start)) }
+    ensures idle { result ≡ 0 → heap.new ≡ heap.old }
 {
     if heap.header(start).format() != WEAK_FORMAT {
         return 0;
@@ -62,6 +64,7 @@ fn nil_slots(heap: &mut Heap, start: usize) -> u64
     requires marked { heap.old.phase ≡ Marked }
     ensures nils { NilsOne start heap.old heap.new }
     ensures count { result ≡ count_by (names_dead (marks heap.old)) (live.weak_values (heap_graph heap.old) (node_in heap.old start)) }
+    ensures idle { result ≡ 0 → heap.new ≡ heap.old }
 {
     let strong = strong_count(heap, start);
     let count = heap.pointer_count(start);

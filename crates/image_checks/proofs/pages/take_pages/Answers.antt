@@ -1,4 +1,4 @@
-use Rattle.std.proofs.Common.{◌≡◌, ℕ, arith, refl, get_or, subst}
+use Rattle.std.proofs.Common.{◌≡◌, ℕ, arith, refl, subst}
 use Rattle.heap_walk.specs.Starts.{has_start}
 use Rattle.spur_graph.specs.Cells.{first}
 use Rattle.spur_graph.specs.Ordinary.{page_places}
@@ -18,12 +18,12 @@ places-init c = record {
 pub unset-requires : goal.unset-requires
 unset-requires c =
     let there = stands_there c.requires.cut (first (file_store c.args.map.now c.args.words.now) 3) (c.requires.first.roots.objects 3 (omega arith)) in
-    omega (arith, there.below, c.requires.first.is 3 (omega arith), c.places.invariant.covers, c.requires.covers)
+    omega (arith, there.below, c.requires.first.are.free_lists, c.places.invariant.covers, c.requires.covers)
 
 pub unset-requires-2 : goal.unset-requires-2
 unset-requires-2 c =
     let there = stands_there c.requires.cut (first (file_store c.args.map.now c.args.words.now) 4) (c.requires.first.roots.objects 4 (omega arith)) in
-    omega (arith, there.below, c.requires.first.is 4 (omega arith), c.unset.ensures.covers, c.places.invariant.covers, c.requires.covers)
+    omega (arith, there.below, c.requires.first.are.hidden_roots, c.unset.ensures.covers, c.places.invariant.covers, c.requires.covers)
 
 pub returns-clause-ordinary : goal.returns-clause-ordinary
 returns-clause-ordinary c =
@@ -31,5 +31,5 @@ returns-clause-ordinary c =
     let all : c.places.place ≡ page_places = omega (arith, c.places-test.false, c.places.auto.place-end) in
     let Left : ℕ → Type 0 = λ n. AreLeft h n (has_start c.places.ordinary) in
     let left : AreLeft h page_places (has_start c.places.ordinary) = subst Left all c.places.invariant.left in
-    left_ordinary h (has_start c.places.ordinary) (has_start c.unset.new.self) (has_start c.unset-2.new.self) (get_or c.args.firsts.now 3 0) (get_or c.args.firsts.now 4 0)
-    (c.requires.first.is 3 (omega arith)) (c.requires.first.is 4 (omega arith)) left c.unset.ensures.removed c.unset.ensures.others c.unset-2.ensures.removed c.unset-2.ensures.others
+    left_ordinary h (has_start c.places.ordinary) (has_start c.unset.new.self) (has_start c.unset-2.new.self) c.args.roots.now.free_lists c.args.roots.now.hidden_roots
+    (c.requires.first.are.free_lists) (c.requires.first.are.hidden_roots) left c.unset.ensures.removed c.unset.ensures.others c.unset-2.ensures.removed c.unset-2.ensures.others

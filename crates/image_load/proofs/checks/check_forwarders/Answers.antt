@@ -12,7 +12,7 @@ offset-requires-clause-within c = omega (arith, lost_inside c.requires.chunks.cu
 pub returns-in-Ok-resolve_forwarders-clause-forwarded : goal.returns-in-Ok-resolve_forwarders-clause-forwarded
 returns-in-Ok-resolve_forwarders-clause-forwarded c =
     let r = c.in-Ok-resolve_forwarders.ensures in
-    forwarded c.args.map.now c.args.words.now c.resolve_forwarders.new.words c.args.firsts.now c.mark_starts.new.starts c.requires.chunks r.resolved r.least r.cut r.starts (c.mark_starts.ensures.covers ∙ sym r.long) r.row r.long
+    forwarded c.args.map.now c.args.words.now c.resolve_forwarders.new.words c.args.roots.now c.mark_starts.new.starts c.requires.chunks r.resolved r.least r.cut r.starts (c.mark_starts.ensures.covers ∙ sym r.long) r.row r.long
 
 pub returns-in-Err-clause-told : goal.returns-in-Err-clause-told
 returns-in-Err-clause-told c =

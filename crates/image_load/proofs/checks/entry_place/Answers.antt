@@ -27,20 +27,20 @@ bounds-words-place c =
 
 pub overflow_add-result : goal.overflow_add-result
 overflow_add-result c =
-    let found = entry_found c.requires.cut c.args.firsts.now c.args.index c.requires.first c.requires.pages c.requires.bad c.to_region.result c.unwrap_or-page.result c.to_region.ensures c.unwrap_or-page.ensures in
+    let found = entry_found c.requires.cut c.args.roots.now c.args.index c.requires.first c.requires.pages c.requires.bad c.to_region.result c.unwrap_or-page.result c.to_region.ensures c.unwrap_or-page.ensures in
     omega (arith, found.1)
 
 pub overflow_add-result-2 : goal.overflow_add-result-2
 overflow_add-result-2 c =
-    let found = entry_found c.requires.cut c.args.firsts.now c.args.index c.requires.first c.requires.pages c.requires.bad c.to_region.result c.unwrap_or-page.result c.to_region.ensures c.unwrap_or-page.ensures in
+    let found = entry_found c.requires.cut c.args.roots.now c.args.index c.requires.first c.requires.pages c.requires.bad c.to_region.result c.unwrap_or-page.result c.to_region.ensures c.unwrap_or-page.ensures in
     omega (arith, found.1)
 
 pub returns-clause-place : goal.returns-clause-place
 returns-clause-place c =
-    let found = entry_found c.requires.cut c.args.firsts.now c.args.index c.requires.first c.requires.pages c.requires.bad c.to_region.result c.unwrap_or-page.result c.to_region.ensures c.unwrap_or-page.ensures in
+    let found = entry_found c.requires.cut c.args.roots.now c.args.index c.requires.first c.requires.pages c.requires.bad c.to_region.result c.unwrap_or-page.result c.to_region.ensures c.unwrap_or-page.ensures in
     ap (λ s. s + 1 + c.args.index % page_entries) found.0
 
 pub returns-clause-within : goal.returns-clause-within
 returns-clause-within c =
-    let found = entry_found c.requires.cut c.args.firsts.now c.args.index c.requires.first c.requires.pages c.requires.bad c.to_region.result c.unwrap_or-page.result c.to_region.ensures c.unwrap_or-page.ensures in
+    let found = entry_found c.requires.cut c.args.roots.now c.args.index c.requires.first c.requires.pages c.requires.bad c.to_region.result c.unwrap_or-page.result c.to_region.ensures c.unwrap_or-page.ensures in
     omega (arith, found.1)

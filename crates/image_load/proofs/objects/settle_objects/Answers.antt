@@ -1,21 +1,28 @@
 use Rattle.std.proofs.Common.{◌≡◌, true, sym, ◌∙◌, arith}
 use Rattle.spur_graph.specs.FileStores.{file_store}
-use Rattle.image_checks.specs.Checks.{IsCut}
-use Rattle.image_settle.proofs.Ready.{ready_follows, ready_ordinary}
+use Rattle.image_words.specs.declared.image.ImageWords.{ImageWords}
+use Rattle.image_checks.proofs.AtStarts.{checked_leads}
 use Rattle.image_load.specs.Passes.{HasValues}
 use Rattle.image_load.proofs.Inside.{pointer_inside}
-use Rattle.image_load.proofs.Settling.{ready, settled}
+use Rattle.image_load.proofs.Settling.{follows, ready, settled}
 use Rattle.image_load.proofs.Telling.{told_slot, told_special, reaches_slots, accepted}
 use Rattle.image_load.proofs.objects.settle_objects.Goals as goal
 
+pub is_good_reference-is_good-requires-clause-image : goal.is_good_reference-is_good-requires-clause-image
+is_good_reference-is_good-requires-clause-image c =
+    (ready _ c.args.words.now c.check.new.words c.in-Ok.ensures.passed c.len-segments.ensures.rising c.requires.all c.requires.small).maps
+
+pub is_good_reference-is_good-requires-clause-leads : goal.is_good_reference-is_good-requires-clause-leads
+is_good_reference-is_good-requires-clause-leads c = checked_leads c.in-Ok.ensures.passed.forwarded.checked
+
 pub settled_word-word-requires : goal.settled_word-word-requires
-settled_word-word-requires c =
-    let f = c.in-Ok.found in
-    let r = ready c.args.map.now c.args.words.now c.check.new.words f c.in-Ok.ensures.passed c.len-segments.ensures.rising c.requires.all c.requires.small in
-    (ready_follows c.args.map.now f.starts f.ordinary f.firsts c.check.new.words r, (ready_ordinary c.args.map.now f.starts f.ordinary f.firsts c.check.new.words r, r.first_five.are 0 (omega arith)))
+settled_word-word-requires c = (
+  follows _ c.args.words.now c.check.new.words c.in-Ok.ensures.passed c.len-segments.ensures.rising c.requires.all c.requires.small,
+  checked_leads c.in-Ok.ensures.passed.forwarded.checked,
+)
 
 pub settle-requires : goal.settle-requires
-settle-requires c = ready c.args.map.now c.args.words.now c.check.new.words c.in-Ok.found c.in-Ok.ensures.passed c.len-segments.ensures.rising c.requires.all c.requires.small
+settle-requires c = ready _ c.args.words.now c.check.new.words c.in-Ok.ensures.passed c.len-segments.ensures.rising c.requires.all c.requires.small
 
 pub returns-in-Err-clause-refused : goal.returns-in-Err-clause-refused
 returns-in-Err-clause-refused c bytes limits t = c.in-Err.ensures.refused bytes limits c.args.special t
@@ -35,7 +42,9 @@ pub returns-then-is_good-clause-settled : goal.returns-then-is_good-clause-settl
 returns-then-is_good-clause-settled c =
     let e = c.in-Ok-settle.ensures in
     let v : HasValues c.args.map.now c.check.new.words c.args.special = record { pointers = e.least; special_there = sym c.is_good_reference-is_good.ensures ∙ c.if-is_good.true } in
-    settled c.args.map.now c.args.words.now c.check.new.words c.in-Ok.found c.in-Ok.ensures.passed c.len-segments.ensures.rising c.requires.all c.requires.small
+    let f = c.in-Ok.found in
+    let image : ImageWords = record { map = c.args.map; starts = record { ref_ptr = c.args.map.ref_ptr; now = f.starts }; ordinary = record { ref_ptr = c.args.map.ref_ptr; now = f.ordinary }; roots = f.roots } in
+    settled image c.args.words.now c.check.new.words c.in-Ok.ensures.passed c.len-segments.ensures.rising c.requires.all c.requires.small
     c.args.special v c.settle.new.words c.settled_word-word.result c.settled_word-word.ensures e.same_len e.settled e.cut e.chunks e.clear
 
 pub returns-then-is_good-clause-accepted : goal.returns-then-is_good-clause-accepted

@@ -12,10 +12,10 @@ settle_body-requires g c =
     let words = c.args.words.now in
     let start = c.args.span.start in
     let w = c.cleared.result.0 in
-    let n : IsNext g.h words (get_or words start 0) start c.args.span.slots = c.requires.1.1.1 in
+    let n : IsNext g.h words (get_or words start 0) start c.args.span.slots = c.requires.1.1 in
     let class : class_of w ≡ class_of (get_or words start 0) = ap (λ (f : Fields). f.class) c.cleared.ensures.fields in
-    let leads = header_written g.h c.args.map.now c.args.starts.now words c.requires.0 start w (omega (arith, n.below)) class n.apart in
-    (leads, (c.requires.1.0, (c.requires.1.1.0, next_written g.h words (get_or words start 0) start c.args.span.slots w n)))
+    let leads = header_written g.h words c.requires.1.0 start w (omega (arith, n.below)) class n.apart in
+    (c.requires.0, (leads, next_written w n))
 
 pub returns-clause-behind : goal.returns-clause-behind
 returns-clause-behind g c = λ j l. c.settle_body.ensures.behind j l ∙ get_or-set_other c.args.words.now c.args.span.start j c.cleared.result.0 0 (λ e. omega (arith, e))

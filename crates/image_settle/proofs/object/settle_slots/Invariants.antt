@@ -1,4 +1,4 @@
-use Rattle.image_settle.specs.Settles.{Follows}
+use Rattle.image_words.specs.References.{Leads}
 use Rattle.heap_cells.specs.Settled.{settled_word}
 use Rattle.image_settle.proofs.Mapped.{Mapped}
 use Rattle.image_settle.proofs.object.settle_slots.Given as goal
@@ -8,6 +8,6 @@ ghost-settled_word g a = g.h
 
 abbrev pub invariant-slots : goal.invariant-slots
 invariant-slots g l = record {
-  leads : Follows g.h l.map l.starts l.words;
+  leads : Leads g.h l.words;
   mapped : Mapped (λ k w. settled_word g.h w) l.fn.words l.words l.from l.j;
 }

@@ -16,8 +16,8 @@ from c =
     let done = c.complete.ensures in
     let inner = c.mark_internal.ensures in
     marked_from c.args.heap.now c.whole.ensures.whole c.requires.phase c.args.except c.excepted_start-name.result c.excepted_start-name.ensures.name
-    c.begin_marking.new.self c.visit_roots.new.heap c.complete.new.heap c.mark_excepted.new.heap c.mark_internal.new.self c.follow_all.new.heap c.begin_marking.ensures.begun c.visit_roots.ensures.visits
-    (record { works = done.works; empty = done.empty; sound = done.sound; all = done.all }) c.mark_excepted.ensures.marks c.whole-2.ensures.whole
+    c.begin_marking.new.self c.visit_roots.new.heap c.complete.new.heap c.clear_stack.new.self c.mark_excepted.new.heap c.mark_internal.new.self c.follow_all.new.heap c.begin_marking.ensures.begun c.visit_roots.ensures.visits
+    (record { works = done.works; all = done.all }) c.clear_stack.ensures c.mark_excepted.ensures.marks c.whole-2.ensures.whole
     (record { rest = inner.rest; cells = inner.store; graph = inner.graph; room = inner.room; inner = inner.inner; others = inner.others }) c.whole-3.ensures.whole c.follow_all.ensures.follows
 
 pub returns-clause-keeps : goal.returns-clause-keeps

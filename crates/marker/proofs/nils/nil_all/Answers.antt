@@ -1,11 +1,11 @@
-use Rattle.std.proofs.Common.{sym, ◌∙◌, arith}
+use Rattle.std.proofs.Common.{refl, sym, ◌∙◌, arith}
 use Rattle.spur_heap.proofs.Starting.{start_below}
 use Rattle.marker.proofs.NilledHeaps.{nils_long, nils_none}
 use Rattle.marker.proofs.NilledWalks.{count_every, count_more, count_none, few_at, nils_every, nils_more}
 use Rattle.marker.proofs.nils.nil_all.Goals as goal
 
 pub starts-init : goal.starts-init
-starts-init c = record { nils = nils_none c.args.heap.now; count = sym (count_none c.args.heap.now); low = omega arith }
+starts-init c = record { nils = nils_none c.args.heap.now; count = sym (count_none c.args.heap.now); low = omega arith; idle = λ e. refl }
 
 pub overflow_add-nilled : goal.overflow_add-nilled
 overflow_add-nilled c =
@@ -37,6 +37,7 @@ starts-preserved c =
       count = count_more c.starts.at c.in-Some.start c.args.heap.now c.starts.heap c.starts.invariant.nils from c.in-Some.ensures.first c.starts.nilled c.nil_at-nilled.result c.starts.invariant.count
           (λ off. (c.nil_at-nilled.ensures.skips off).1) c.nil_at-nilled.ensures.count;
       low = omega (arith, most, from, c.starts.invariant.low);
+      idle = λ e. c.nil_at-nilled.ensures.idle (omega (arith, e)) ∙ c.starts.invariant.idle (omega (arith, e));
     }
 
 pub returns-clause-nils : goal.returns-clause-nils

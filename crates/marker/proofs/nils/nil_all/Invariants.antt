@@ -9,6 +9,7 @@ invariant-starts l = record {
   nils : NilsBelow l.at l.fn.heap l.heap;
   count : l.nilled ≡ nils_below (marks l.fn.heap) (heap_graph l.fn.heap) l.at;
   low : l.nilled ≤ l.at * 2 ^ 27;
+  idle : l.nilled ≡ 0 → l.heap ≡ l.fn.heap;
 }
 
 abbrev pub decreases-starts : goal.decreases-starts

@@ -1,13 +1,9 @@
-use Rattle.std.proofs.Common.{◌≡◌, ◌-◌, ◌≤◌, length}
-use Rattle.marker.specs.Firing.{FiresBelow}
+use Rattle.std.proofs.Common.{◌≤◌}
+use Rattle.marker.specs.Firing.{FiresFirst}
 use Rattle.marker.proofs.rounds.fire_round.Given as goal
 
-abbrev pub invariant-starts : goal.invariant-starts
-invariant-starts l = record {
-  fires : FiresBelow l.at l.fn.heap l.heap;
-  count : l.fired ≡ length l.heap.stack;
-  low : l.fired ≤ l.at;
+abbrev pub invariant-waiting : goal.invariant-waiting
+invariant-waiting l = record {
+  fires : FiresFirst l.i l.fn.heap l.fired l.heap;
+  low : l.fired ≤ l.i;
 }
-
-abbrev pub decreases-starts : goal.decreases-starts
-decreases-starts l = length l.fn.heap.words - l.at

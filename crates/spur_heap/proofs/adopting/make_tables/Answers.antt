@@ -37,6 +37,7 @@ makes c =
       covers = c.enter_chunks-parts.ensures.covers ∙ ap (λ (r : HeapParts). length r.region) rest;
       count = c.enter_chunks-parts.ensures.counts ∙ ap (λ (r : HeapParts). count_new r.region q.starts (row r.region 0 r.old_end)) rest;
       lists = lists;
+      remembered = c.requires.remembered;
       tables = c.requires.tables;
     }
 

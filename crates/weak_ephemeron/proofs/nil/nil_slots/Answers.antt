@@ -1,4 +1,4 @@
-use Rattle.std.proofs.Common.{◌≡◌, ◌+◌, ◌<◌, ℕ, suc, cond, length, sym, ap, ◌∙◌, arith}
+use Rattle.std.proofs.Common.{◌≡◌, ◌+◌, ◌<◌, ℕ, suc, cond, length, refl, sym, ap, ◌∙◌, arith}
 use Rattle.spur_graph.specs.Rounds.{names_dead}
 use Rattle.spur_graph.specs.Heaps.{heap_value}
 use Rattle.spur_heap.specs.MarkBits.{marks}
@@ -13,6 +13,7 @@ slots-init c = record {
   from = omega arith;
   nils = below_none c.args.start c.strong_count-strong.result c.args.heap.now;
   count = sym (counted_none (names_dead (marks c.args.heap.now)) (heap_value c.args.heap.now 0) c.strong_count-strong.result (node_in c.args.heap.now c.args.start).pointers);
+  idle = λ e. refl;
 }
 
 pub nil_slot-nilled-requires-clause-within : goal.nil_slot-nilled-requires-clause-within
@@ -39,6 +40,7 @@ slots-preserved c =
       from = omega (arith, c.slots.invariant.from);
       nils = below_more c.args.start c.strong_count-strong.result c.args.heap.now c.slots.i c.slots.heap c.nil_slot-nilled.new.heap c.slots.invariant.nils c.slots.invariant.from low c.nil_slot-nilled.ensures.nils;
       count = (λ y. c.slots.invariant.count y + same y) ∙ sym more ∙ ap (λ n. counted p c.strong_count-strong.result n (node_in c.args.heap.now c.args.start).pointers) (sym next);
+      idle = λ e. c.nil_slot-nilled.ensures.idle (omega (arith, e)) ∙ c.slots.invariant.idle (omega (arith, e));
     }
 
 pub returns-clause-nils : goal.returns-clause-nils

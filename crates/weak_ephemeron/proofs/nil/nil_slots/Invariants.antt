@@ -11,4 +11,5 @@ invariant-slots l = record {
   from : l.strong ≤ l.i;
   nils : NilsBelow l.start l.strong l.i l.fn.heap l.heap;
   count : l.nilled ≡ counted (names_dead (marks l.fn.heap)) l.strong l.i (node_in l.fn.heap l.start).pointers;
+  idle : l.nilled ≡ 0 → l.heap ≡ l.fn.heap;
 }

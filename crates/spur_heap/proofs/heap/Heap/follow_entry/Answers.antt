@@ -3,18 +3,18 @@ use Rattle.spur_graph.specs.Ordinary.{class_limit, root_slot, entry}
 use Rattle.spur_graph.specs.Heaps.{View, store_of}
 use Rattle.spur_heap.specs.declared.heap.HeapParts.{HeapParts}
 use Rattle.spur_heap.specs.Parts.{view_of, ArePartsOfHeap}
-use Rattle.spur_heap.specs.Words.{AreSound, body_in, is_good}
+use Rattle.spur_heap.specs.Words.{AreSound, starts_at, body_in, is_good}
 use Rattle.spur_heap.specs.Views.{follows}
 use Rattle.spur_heap.specs.Entering.{HasPage}
-use Rattle.spur_heap.specs.Remembering.{remembered_for, stored}
+use Rattle.spur_heap.specs.Remembering.{CanNote, must_remember, noted, remembered_for, stored}
 use Rattle.spur_heap.specs.Following.{Follows, IsFollowedEntry}
 use Rattle.spur_heap.proofs.PageAt.{page_read}
-use Rattle.spur_heap.proofs.EntryFollowed.{start, entry_inside, entry_read, entry_good, page_there, another, entry_result, entry_stays}
+use Rattle.spur_heap.proofs.EntryFollowed.{start, start_starts, entry_inside, entry_read, entry_good, page_there, another, entry_result, entry_stays}
 use Rattle.spur_heap.proofs.Puts.{whole_sound}
 use Rattle.spur_heap.proofs.SlotAlike.{Another}
-use Rattle.spur_heap.proofs.SlotFollowed.{followed_whole, followed_tables, follows_slot, entry_followed}
+use Rattle.spur_heap.proofs.SlotFollowed.{followed_whole, followed_tables, followed_notes, follows_slot, entry_followed}
 use Rattle.spur_heap.proofs.Storing.{remembered_for_long, stored_seen}
-use Rattle.spur_heap.proofs.Tables.{parts_with}
+use Rattle.spur_heap.proofs.Tables.{parts_noting, can_note_at}
 use Rattle.spur_heap.proofs.heap.Heap.follow_entry.Goals as goal
 
 -- what was read: slot `index / 1024` of the hidden roots
@@ -30,6 +30,12 @@ module _ (p : HeapParts) (k : ArePartsOfHeap p) (index : ℕ) (below : index < c
 
   at : root / 8 ≡ s
   at = ap (λ w. w / 8) root_is ∙ page_read v sound index below paged
+
+  starts : starts_at v s ≡ true
+  starts = start_starts v sound index below paged
+
+  can : CanNote p (root / 8)
+  can = can_note_at p k v refl (root / 8) (ap (starts_at v) at ∙ starts)
 
   inside : root / 8 + 1 + index % 1024 < length p.region
   inside = let far = entry_inside v sound index below paged in omega (arith, far, at)
@@ -52,17 +58,23 @@ module _ (p : HeapParts) (k : ArePartsOfHeap p) (index : ℕ) (below : index < c
       other : Another (store_of v) s (index % 1024) to (body_in v s)
       other = another v sound index below paged to led
 
-      module _ (q : HeapParts) (q_is : q ≡ record p { region = (remembered_for v (root / 8) to).words }) (new : List ℕ) (new_is : new ≡ set q.region (root / 8 + 1 + index % 1024) to) where
+      -- the parts once the page that starts there is remembered where it has to be
+      abbrev noting : ℕ → HeapParts
+      noting t = record p { region = (remembered_for v t to).words; remembered = noted v (must_remember v t to) t p.remembered }
+
+      module _ (q : HeapParts) (q_is : q ≡ record p { region = (remembered_for v (root / 8) to).words; remembered = noted v (must_remember v (root / 8) to) (root / 8) p.remembered }) (new : List ℕ) (new_is : new ≡ set q.region (root / 8 + 1 + index % 1024) to) where
         seen : view_of (record q { region = new }) ≡ stored v s (index % 1024) to
         seen =
-            stored_seen p v refl s (index % 1024) to q (q_is ∙ ap (λ t. let r : HeapParts = record p { region = (remembered_for v t to).words } in r) at) new
+            stored_seen p v refl s (index % 1024) to q _ (q_is ∙ ap noting at) new
             (new_is ∙ ap (λ t. set q.region (t + 1 + index % 1024) to) at)
 
         parts : ArePartsOfHeap (record q { region = new })
         parts =
             subst (λ (r : HeapParts). ArePartsOfHeap (record r { region = new })) (sym q_is)
-            (parts_with p k v (stored v s (index % 1024) to) refl new (ap (λ (r : HeapParts). view_of (record r { region = new })) (sym q_is) ∙ seen)
-            (followed_whole v k.whole s (index % 1024) to other) (followed_tables v k.whole s (index % 1024) to other))
+            (subst (λ t. ArePartsOfHeap (record p { region = new; remembered = noted v (must_remember v t to) t p.remembered })) (sym at)
+            (parts_noting p k v (stored v s (index % 1024) to) refl new (ap (λ (r : HeapParts). view_of (record r { region = new })) (sym q_is) ∙ seen)
+            (followed_whole v k.whole s (index % 1024) to other) (followed_tables v k.whole s (index % 1024) to other)
+            (λ (x : View). must_remember x s to) s starts (followed_notes v k.whole s (index % 1024) to other)))
 
         kept : Follows v (view_of (record q { region = new }))
         kept = subst (λ (u : View). Follows v u) (sym seen) (follows_slot v k.whole s (index % 1024) to other (entry_result v sound index below paged to led))
@@ -85,8 +97,7 @@ follow_word-to-requires-clause-good c =
 
 pub remember_for-requires : goal.remember_for-requires
 remember_for-requires c =
-    let far = inside c.self.inside.parts c.self.invariant c.args.index c.requires.below (page_seen (view_of c.self.inside.parts) c.args.self.now c.self.view_is c.args.index c.requires.page) c.root_word.result c.root_word.ensures in
-    record { inside = omega (arith, far) }
+    record { can = can c.self.inside.parts c.self.invariant c.args.index c.requires.below (page_seen (view_of c.self.inside.parts) c.args.self.now c.self.view_is c.args.index c.requires.page) c.root_word.result c.root_word.ensures }
 
 pub put-requires : goal.put-requires
 put-requires c =

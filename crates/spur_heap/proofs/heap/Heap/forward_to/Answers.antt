@@ -5,8 +5,13 @@ use Rattle.spur_heap.specs.declared.heap.HeapParts.{HeapParts}
 use Rattle.spur_heap.specs.Forwarders.{led_to}
 use Rattle.spur_heap.specs.Parts.{view_of}
 use Rattle.spur_heap.proofs.Forwardable.{CanLead}
-use Rattle.spur_heap.proofs.LedTo.{from_inside, to_small, some_objects, then, seen, led_parts, led_to_graph, led_to_room, led_to_value, led_to_good, led_to_ordinary}
+use Rattle.spur_heap.proofs.LedTo.{from_can, from_inside, to_small, some_objects, then, seen, led_parts, led_to_graph, led_to_room, led_to_value, led_to_good, led_to_ordinary}
 use Rattle.spur_heap.proofs.heap.Heap.forward_to.Goals as goal
+
+pub lead_to-requires-clause-can : goal.lead_to-requires-clause-can
+lead_to-requires-clause-can c =
+    let can : CanLead c.args.self.now c.args.from c.args.to = record { from = c.requires.there; to = c.requires.other; apart = c.requires.apart; plain = c.requires.plain; class = c.requires.class; mourner = c.requires.mourner } in
+    from_can c.self.inside.parts c.self.invariant c.args.self.now c.self.view_is c.args.from c.args.to can
 
 pub lead_to-requires-clause-inside : goal.lead_to-requires-clause-inside
 lead_to-requires-clause-inside c =

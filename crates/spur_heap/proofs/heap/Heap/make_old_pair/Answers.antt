@@ -1,17 +1,23 @@
-use Rattle.std.proofs.Common.{◌∙◌, ◌≡◌, ◌+◌, ◌<◌, ℕ, None, MatchOption, sym, subst, Option}
+use Rattle.std.proofs.Common.{◌∙◌, ◌≡◌, ◌+◌, ◌<◌, ℕ, None, IfNone, MatchOption, sym, subst, Option}
 use Rattle.spur_graph.specs.Room.{fresh_words}
 use Rattle.spur_graph.specs.Serve.{Anywhere, serve}
 use Rattle.spur_graph.specs.Spaces.{old_row}
 use Rattle.spur_graph.specs.Heaps.{View, heap_room}
 use Rattle.free_lists.specs.Rows.{free_runs}
 use Rattle.spur_heap.specs.declared.heap.HeapParts.{HeapParts}
-use Rattle.spur_heap.specs.Parts.{view_of}
+use Rattle.spur_heap.specs.Parts.{view_of, ArePartsOfHeap}
 use Rattle.spur_heap.specs.Pairing.{MakesPair}
-use Rattle.spur_heap.proofs.Allocated.{few_objects}
+use Rattle.spur_heap.proofs.Allocated.{few_objects, untaken}
 use Rattle.spur_heap.proofs.EdenServed.{old_has_to}
 use Rattle.spur_heap.proofs.Needs.{took, none_served, old_inside}
 use Rattle.spur_heap.proofs.PairedParts.{old_pair_parts, old_pair_made}
 use Rattle.spur_heap.proofs.heap.Heap.make_old_pair.Goals as goal
+
+pub invariant_of-self : goal.invariant_of-self
+invariant_of-self c =
+    let p : HeapParts = c.self.inside.parts in
+    let same : (c.take.new.region ≡ p.region) × (c.take.new.self ≡ p.free) = subst (λ (r : Option ℕ). IfNone r ((c.take.new.region ≡ p.region) × (c.take.new.self ≡ p.free))) c.in_err-at.was c.take.ensures.none in
+    subst (λ (x : HeapParts). ArePartsOfHeap x) (sym (untaken p c.take.new.region c.take.new.self same.0 same.1)) c.self.invariant
 
 pub returns-in_err-at-clause-made : goal.returns-in_err-at-clause-made
 returns-in_err-at-clause-made c =

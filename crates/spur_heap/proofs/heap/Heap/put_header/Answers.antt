@@ -4,8 +4,8 @@ use Rattle.spur_graph.specs.Heaps.{View, IsWhole, store_of, heap_value, heap_gra
 use Rattle.spur_heap.specs.Parts.{view_of}
 use Rattle.spur_heap.specs.Remembering.{after}
 use Rattle.spur_heap.specs.Words.{is_good}
-use Rattle.spur_heap.proofs.Tables.{parts_with}
-use Rattle.spur_heap.proofs.Headed.{inside, headed_at, headed_whole, headed_tables, headed_ordinary, headed_good, headed_value, headed_graph, headed_room}
+use Rattle.spur_heap.proofs.Tables.{parts_same}
+use Rattle.spur_heap.proofs.Headed.{inside, headed_at, headed_whole, headed_tables, headed_noted, headed_ordinary, headed_good, headed_value, headed_graph, headed_room}
 use Rattle.spur_heap.proofs.heap.Heap.put_header.Goals as goal
 
 pub put-requires : goal.put-requires
@@ -24,8 +24,9 @@ pub invariant_of-self : goal.invariant_of-self
 invariant_of-self c =
     let v = c.args.self.now in
     let whole : IsWhole v = subst (λ (u : View). IsWhole u) c.self.view_is c.self.invariant.whole in
-    parts_with c.self.inside.parts c.self.invariant v (headed_at v whole c.args.start c.requires.there c.args.header.0 c.requires.can) c.self.view_is c.put.new.self (returns-clause-written c)
+    parts_same c.self.inside.parts c.self.invariant v (headed_at v whole c.args.start c.requires.there c.args.header.0 c.requires.can) c.self.view_is c.put.new.self (returns-clause-written c)
     (headed_whole v whole c.args.start c.requires.there c.args.header.0 c.requires.can) (headed_tables v whole c.args.start c.requires.there c.args.header.0 c.requires.can)
+    (headed_noted v whole c.args.start c.requires.there c.args.header.0 c.requires.can)
 
 pub returns-clause-graph : goal.returns-clause-graph
 returns-clause-graph c =

@@ -3,17 +3,16 @@ use Rattle.spur_graph.specs.Heaps.{View, IsWhole, heap_value, heap_graph, heap_r
 use Rattle.spur_heap.specs.declared.heap.HeapParts.{HeapParts}
 use Rattle.spur_heap.specs.Parts.{view_of, ArePartsOfHeap}
 use Rattle.spur_heap.specs.Views.{IsOrdinary, IsGood}
-use Rattle.spur_heap.specs.Remembering.{stored}
-use Rattle.spur_heap.proofs.Puts.{start_inside, pointer_inside}
-use Rattle.spur_heap.proofs.Tables.{parts_with}
-use Rattle.spur_heap.proofs.Storing.{remembered_for_long, stored_whole, stored_tables, stored_seen, stored_graph, stored_room, stored_value, stored_good, stored_ordinary}
+use Rattle.spur_heap.specs.Remembering.{must_remember, stored}
+use Rattle.spur_heap.proofs.Puts.{start_there, pointer_inside}
+use Rattle.spur_heap.proofs.Tables.{parts_noting, can_note_at}
+use Rattle.spur_heap.proofs.Storing.{remembered_for_long, stored_whole, stored_tables, stored_notes, stored_seen, stored_graph, stored_room, stored_value, stored_good, stored_ordinary}
 use Rattle.spur_heap.proofs.heap.Heap.put_pointer.Goals as goal
 
 pub remember_for-requires : goal.remember_for-requires
 remember_for-requires c =
     let whole : IsWhole c.args.self.now = subst (λ (v : View). IsWhole v) c.self.view_is c.self.invariant.whole in
-    let low = start_inside c.args.self.now whole c.args.start c.requires.there in
-    record { inside = subst (λ (v : View). c.args.start < length v.words) (sym c.self.view_is) (omega (arith, low)) }
+    record { can = can_note_at c.self.inside.parts c.self.invariant c.args.self.now c.self.view_is c.args.start (start_there c.args.self.now whole c.args.start c.requires.there) }
 
 pub overflow_add-start : goal.overflow_add-start
 overflow_add-start c =
@@ -39,7 +38,7 @@ put-requires c =
 
 pub returns-clause-written : goal.returns-clause-written
 returns-clause-written c =
-    stored_seen c.self.inside.parts c.args.self.now c.self.view_is c.args.start c.args.i c.args.word c.remember_for.new.parts c.remember_for.ensures c.put.new.self c.put.ensures
+    stored_seen c.self.inside.parts c.args.self.now c.self.view_is c.args.start c.args.i c.args.word c.remember_for.new.parts _ c.remember_for.ensures c.put.new.self c.put.ensures
 
 pub invariant_of-self : goal.invariant_of-self
 invariant_of-self c =
@@ -47,9 +46,11 @@ invariant_of-self c =
     let whole : IsWhole v = subst (λ (u : View). IsWhole u) c.self.view_is c.self.invariant.whole in
     let seen = ap (λ (p : HeapParts). view_of (record p { region = c.put.new.self })) (sym c.remember_for.ensures) ∙ returns-clause-written c in
     subst (λ (p : HeapParts). ArePartsOfHeap (record p { region = c.put.new.self })) (sym c.remember_for.ensures)
-    (parts_with c.self.inside.parts c.self.invariant v (stored v c.args.start c.args.i c.args.word) c.self.view_is c.put.new.self seen
+    (parts_noting c.self.inside.parts c.self.invariant v (stored v c.args.start c.args.i c.args.word) c.self.view_is c.put.new.self seen
     (stored_whole v whole c.args.start c.requires.there c.args.word c.args.i c.requires.within c.requires.no_literals c.requires.good)
-    (stored_tables v whole c.args.start c.requires.there c.args.word c.args.i c.requires.within c.requires.no_literals c.requires.good))
+    (stored_tables v whole c.args.start c.requires.there c.args.word c.args.i c.requires.within c.requires.no_literals c.requires.good)
+    (λ (x : View). must_remember x c.args.start c.args.word) c.args.start (start_there v whole c.args.start c.requires.there)
+    (stored_notes v whole c.args.start c.requires.there c.args.word c.args.i c.requires.within c.requires.no_literals c.requires.good))
 
 pub returns-clause-graph : goal.returns-clause-graph
 returns-clause-graph c =

@@ -7,8 +7,8 @@ use Rattle.spur_heap.specs.Sizes.{IsSize}
 use Rattle.spur_heap.specs.Words.{body_in, unit_bytes_in, unit_place, unit_word}
 use Rattle.spur_heap.specs.Views.{IsOrdinary, IsGood}
 use Rattle.spur_heap.specs.Remembering.{after}
-use Rattle.spur_heap.proofs.Tables.{parts_with}
-use Rattle.spur_heap.proofs.Puts.{units_count, unit_size, fields_are, unit_seen, unit_whole, unit_tables, unit_graph, unit_room, unit_values, unit_goods, unit_ordinary}
+use Rattle.spur_heap.proofs.Tables.{parts_same}
+use Rattle.spur_heap.proofs.Puts.{units_count, unit_size, fields_are, unit_seen, unit_whole, unit_tables, unit_noted, unit_graph, unit_room, unit_values, unit_goods, unit_ordinary}
 use Rattle.spur_heap.proofs.heap.Heap.put_unit.Goals as goal
 
 pub unit_place_of-at-requires-clause-within : goal.unit_place_of-at-requires-clause-within
@@ -38,8 +38,9 @@ invariant_of-self c =
     let v = c.args.self.now in
     let whole : IsWhole v = subst (λ (u : View). IsWhole u) c.self.view_is c.self.invariant.whole in
     let then : View = after v (unit_place v c.args.start c.args.i) (unit_word v c.args.start c.args.i c.args.value) in
-    parts_with c.self.inside.parts c.self.invariant v then c.self.view_is c.put.new.self (returns-clause-written c) (unit_whole v whole c.args.start c.requires.there c.args.i c.requires.within c.args.value)
+    parts_same c.self.inside.parts c.self.invariant v then c.self.view_is c.put.new.self (returns-clause-written c) (unit_whole v whole c.args.start c.requires.there c.args.i c.requires.within c.args.value)
     (unit_tables v whole c.args.start c.requires.there c.args.i c.requires.within c.args.value)
+    (unit_noted v whole c.args.start c.requires.there c.args.i c.requires.within c.args.value)
 
 pub returns-clause-graph : goal.returns-clause-graph
 returns-clause-graph c =

@@ -4,12 +4,13 @@ use Rattle.spur_graph.specs.Cells.{first}
 use Rattle.spur_graph.specs.Ordinary.{ordinary_starts}
 use Rattle.spur_graph.specs.Heaps.{View, IsWhole, store_of}
 use Rattle.spur_heap.specs.declared.heap.HeapParts.{HeapParts}
-use Rattle.spur_heap.specs.Parts.{view_of, ArePartsOfHeap}
+use Rattle.spur_heap.specs.Parts.{view_of, is_noted, ArePartsOfHeap}
 use Rattle.spur_heap.specs.Words.{starts_at}
 use Rattle.spur_heap.specs.Entering.{CanTurn, TurnsIntoPage}
 use Rattle.spur_heap.proofs.Puts.{start_inside}
 use Rattle.spur_heap.proofs.Tables.{HasFreeLists, tables_kept}
-use Rattle.spur_heap.proofs.Turned.{turned, turned_whole, turned_starts, turned_lists, turned_inside}
+use Rattle.spur_heap.proofs.Noted.{table_same}
+use Rattle.spur_heap.proofs.Turned.{turned, turned_noted, turned_whole, turned_starts, turned_lists, turned_inside}
 use Rattle.spur_heap.proofs.TurnedGraph.{turns, turned_count}
 use Rattle.spur_heap.proofs.heap.Heap.turn_into_page.Goals as goal
 
@@ -47,6 +48,10 @@ module _ (p : HeapParts) (v : View) (same : view_of p ≡ v) (k : ArePartsOfHeap
           };
           objects = record {
             count = (let c = count_is in let less : p.objects - 1 ≡ length (ordinary_starts (store_of then)) = omega (arith, c) in less) ∙ ap (λ (u : View). length (ordinary_starts (store_of u))) (sym told);
+          };
+          remembered = record {
+            table = table_same (λ t. ap (λ (u : View). is_noted u t) told ∙ turned_noted whole can t ∙ ap (λ (u : View). is_noted u t) (sym same))
+                (ap (λ (ws : List ℕ). length ws) is ∙ length-set p.region (roots + 1 + place) (8 * start)) k.remembered.table;
           };
           tables = tables_kept p (record p { region = new; objects = p.objects - 1 }) k.tables
               (ap (λ (ws : List ℕ). length ws) is ∙ length-set p.region (roots + 1 + place) (8 * start)) refl;
